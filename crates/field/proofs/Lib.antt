@@ -1,0 +1,7 @@
+pub mod Test
+pub mod Xor
+pub mod Times
+pub mod Power
+pub mod Logarithm
+pub mod Division
+pub mod Table

@@ -1,0 +1,87 @@
+-- `field::product_by` meets its contract: a factor 0 by itself, and else the exponents add. Assumes nothing.
+use mathlib.Core.Path.{_≡_, sym, _∙_, ap}
+use Prim.Native.Nat.{ℕ, _<_}
+use native.Mathlib.Omega.{arith}
+use borrow.Author.Needs.{needs}
+use Rattle.field.specs.Field.{times, power}
+use Rattle.field.proofs.Times.{zero-times, times-zero}
+use Rattle.field.proofs.Table.{product-low, product-high}
+use Rattle.field.proofs.product_by.Statement.{statement}
+use Rattle.field.proofs.product_by.Tie as tie
+
+returns : tie.Need-returns
+returns c = sym (ap (λ (x : ℕ). times x (c .before .args .b)) (c .if1 .taken) ∙ zero-times (c .before .args .b))
+
+returns-2 : tie.Need-returns-2
+returns-2 c = sym (ap (times _) (c .if2 .taken) ∙ times-zero _ (omega arith))
+
+element-copy-out-wide : tie.Need-element-copy-out-wide
+element-copy-out-wide c = search needs
+
+wide-requires : tie.Need-wide-requires
+wide-requires c κs = search needs
+
+element-copy-out-wide-2 : tie.Need-element-copy-out-wide-2
+element-copy-out-wide-2 c = search needs
+
+wide-requires-2 : tie.Need-wide-requires-2
+wide-requires-2 c κs = search needs
+
+-- the two exponents that were looked up
+module _ (c : tie.After-wide2) where
+  first : power 2 (c .before .before .wide .result) ≡ c .before .before .before .before .before .before .args .a
+  first =
+      let s = c .before .before .before .before .before .before in
+      ap (power 2) (c .before .before .wide .ensures) ∙ s .pre .1 .exponent (s .args .a) (omega arith) (omega arith)
+
+  first-small : c .before .before .wide .result < 255
+  first-small =
+      let s = c .before .before .before .before .before .before in
+      omega (arith, c .before .before .wide .ensures, s .pre .1 .small (s .args .a) (omega arith) (omega arith))
+
+  second : power 2 (c .wide2 .result) ≡ c .before .before .before .before .before .before .args .b
+  second =
+      let s = c .before .before .before .before .before .before in
+      ap (power 2) (c .wide2 .ensures) ∙ s .pre .1 .exponent (s .args .b) (omega arith) (omega arith)
+
+  second-small : c .wide2 .result < 255
+  second-small =
+      let s = c .before .before .before .before .before .before in
+      omega (arith, c .wide2 .ensures, s .pre .1 .small (s .args .b) (omega arith) (omega arith))
+
+add-exponent : tie.Need-add-exponent
+add-exponent c = omega (arith, first-small c, second-small c)
+
+element-copy-out-result : tie.Need-element-copy-out-result
+element-copy-out-result c = search needs
+
+returns-3 : tie.Need-returns-3
+returns-3 c =
+    let d = c .before .before in
+    let s = d .before .before .before .before .before .before in
+    product-low _ (s .pre .0) (s .args .a) (s .args .b) _ _ (first d) (second d) (c .before .if3 .taken)
+
+element-copy-out-result-2 : tie.Need-element-copy-out-result-2
+element-copy-out-result-2 c = omega (arith, first-small (c .before), second-small (c .before))
+
+returns-4 : tie.Need-returns-4
+returns-4 c =
+    let d = c .before .before in
+    let s = d .before .before .before .before .before .before in
+    product-high _ (s .pre .0) (s .args .a) (s .args .b) _ _ (first d) (second d) (first-small d) (second-small d) (c .before .if3 .left)
+
+pub product-by-spec : {M : Type 1} → statement M
+product-by-spec =
+    tie.close
+    (tie.spec
+    returns
+    returns-2
+    element-copy-out-wide
+    wide-requires
+    element-copy-out-wide-2
+    wide-requires-2
+    add-exponent
+    element-copy-out-result
+    returns-3
+    element-copy-out-result-2
+    returns-4)
