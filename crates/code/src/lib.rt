@@ -1,0 +1,1 @@
+// The Reed-Solomon code over byte planes: check values.
