@@ -5,3 +5,4 @@ pub mod Vector
 pub mod Repair
 pub mod Promise
 pub mod Entry
+pub mod Lanes

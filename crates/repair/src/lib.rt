@@ -1,0 +1,1 @@
+// Repair of a vector by check values: in each byte plane the one codeword within t places, or none.
