@@ -39,8 +39,9 @@ unfoldable pub generator : (roots : ℕ) → List ℕ
 generator zero = 1 ∷ []
 generator (suc k) = times-factor (root k) (generator k)
 
--- the remainder by a divisor: shorter than it, and with a multiple of it the dividend, coefficient by coefficient
+-- the remainder by a divisor: shorter than it, and with the divisor times a quotient of bytes the dividend, coefficient by coefficient
 pub record Remainder (divisor dividend remainder : List ℕ) : Type 0 where
   pub quotient : List ℕ
+  pub quotient-bytes : (i : ℕ) → getD quotient i 0 < 256
   pub shorter : length remainder < length divisor
   pub adds-up : (i : ℕ) → getD (added (multiplied quotient divisor) remainder) i 0 ≡ getD dividend i 0

@@ -1,0 +1,11 @@
+pub mod Bytes
+pub mod Place
+pub mod PowerSum
+pub mod Errors
+pub mod Word
+pub mod Near
+pub mod Polynomial
+pub mod Generator
+pub mod Remainder
+pub mod Vector
+pub mod Checks
