@@ -9,3 +9,5 @@ pub mod Generator
 pub mod Remainder
 pub mod Vector
 pub mod Checks
+pub mod Written
+pub mod Multiples

@@ -1,4 +1,4 @@
--- Eight byte planes side by side in one array of bytes: row j's byte of plane p stands at 8j + p. Assumes nothing.
+-- Eight byte planes side by side in one array: row j's byte of plane p stands at 8j + p. Assumes nothing: these are definitions.
 use mathlib.Core.Path.{_≡_}
 use mathlib.Core.List.{List, [], _∷_}
 use Prim.Native.Nat.{ℕ, zero, suc, _+_, _*_, _≤_, _<_}
@@ -10,10 +10,15 @@ unfoldable pub lane : (p rows : ℕ) → List ℕ → List ℕ
 lane p zero bs = []
 lane p (suc k) bs = getD bs p 0 ∷ lane p k (drop 8 bs)
 
--- to row j of each plane its value times constant j is added; what lies past the constants' rows is kept
-pub record Products-added (value constants rows rows-now : List ℕ) : Type 0 where
+-- row k is k times the value, for each k below 16
+pub record Multiples (value rows : List ℕ) : Type 0 where
+  pub long : length rows ≡ 128
+  pub row : (k p : ℕ) → k < 16 → p < 8 → getD rows (8 * k + p) 0 ≡ times (getD value p 0) k
+
+-- to each of the first rows j of each plane its value times constant j is added, and every other byte is kept
+pub record Products-added (many : ℕ) (value constants rows rows-now : List ℕ) : Type 0 where
   pub long : length rows-now ≡ length rows
   pub sums :
-      (j p : ℕ) → j < length constants → p < 8 →
+      (j p : ℕ) → j < many → p < 8 →
       getD rows-now (8 * j + p) 0 ≡ plus (getD rows (8 * j + p) 0) (times (getD value p 0) (getD constants j 0))
-  pub rest : (i : ℕ) → 8 * length constants ≤ i → getD rows-now i 0 ≡ getD rows i 0
+  pub rest : (i : ℕ) → 8 * many ≤ i → getD rows-now i 0 ≡ getD rows i 0

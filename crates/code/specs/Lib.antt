@@ -5,4 +5,5 @@ pub mod Vector
 pub mod Repair
 pub mod Promise
 pub mod Entry
+pub mod Array
 pub mod Lanes

@@ -1,1 +1,2 @@
 // The Reed-Solomon code over byte planes: check values.
+pub mod lanes;

@@ -1,0 +1,87 @@
+-- `double_row` meets its contract: the byte read is an old one, since the row written lies at the place read or above it. Assumes nothing.
+use mathlib.Core.Path.{_≡_, _∙_, ap, ap₂}
+use mathlib.Core.List.{List}
+use Prim.Native.Nat.{ℕ, _+_, _*_, _-_, _≤_, _<_}
+use native.Mathlib.Omega.{arith}
+use native.Mathlib.Decide.{decLt}
+use lib.ListN.{length, getD}
+use borrow.Author.Needs.{needs}
+use Rattle.field.specs.Field.{plus, doubled}
+use Rattle.code.specs.Array.{Written}
+use Rattle.code.proofs.Written.{written-none, written-more, written-to}
+use Rattle.code.proofs.lanes.double_row.Statement.{statement}
+use Rattle.code.proofs.lanes.double_row.Tie as tie
+
+old-source :
+    (j p : ℕ) (f : ℕ → ℕ) (old rows : List ℕ) → Written (16 * j) p f old rows → p < 8 → getD rows (8 * j + p) 0 ≡ getD old (8 * j + p) 0
+old-source j p f old rows w h = go (decLt (8 * j + p) (16 * j))
+  where
+    go : Dec (8 * j + p < 16 * j) → getD rows (8 * j + p) 0 ≡ getD old (8 * j + p) 0
+    go (yes l) = w .before _ l
+    go (no l) = w .after _ (omega arith)
+
+abbrev Inv-loop : tie.InvT-loop
+Inv-loop rows₀ j p₀ rows p = (p ≤ 8) × Written (16 * j) p (λ q. doubled (getD rows₀ (8 * j + q) 0)) rows₀ rows
+
+abbrev μ-loop : tie.MeasureT-loop
+μ-loop rows₀ j p₀ rows p = 8 - p
+
+loop-holds : tie.Need-loop-holds Inv-loop μ-loop
+loop-holds c = (omega arith, written-none _ _ _)
+
+mul-double : tie.Need-mul-double Inv-loop μ-loop
+mul-double c = omega arith
+
+add-double : tie.Need-add-double Inv-loop μ-loop
+add-double c = omega arith
+
+element-copy-out-double : tie.Need-element-copy-out-double Inv-loop μ-loop
+element-copy-out-double c = omega arith
+
+double-requires : tie.Need-double-requires Inv-loop μ-loop
+double-requires c κs = search needs
+
+mul-rows : tie.Need-mul-rows Inv-loop μ-loop
+mul-rows c = omega arith
+
+add-rows : tie.Need-add-rows Inv-loop μ-loop
+add-rows c = omega arith
+
+element-write-rows : tie.Need-element-write-rows Inv-loop μ-loop
+element-write-rows c = omega arith
+
+add-p : tie.Need-add-p Inv-loop μ-loop
+add-p c = omega arith
+
+loop-less : tie.Need-loop-less Inv-loop μ-loop
+loop-less c = omega arith
+
+loop-again : tie.Need-loop-again Inv-loop μ-loop
+loop-again c =
+    let d = c .before .before .before in (
+      omega arith,
+      written-more _ _ _ _ _ _ (d .loop .inv .1) (omega arith)
+          (c .double .ensures ∙ ap doubled (old-source _ _ _ _ _ (d .loop .inv .1) (c .before .before .loop-test .taken))),
+    )
+
+returns : tie.Need-returns Inv-loop μ-loop
+returns c = written-to (let e : c .before .loop .p ≡ 8 = omega arith in e) (c .before .loop .inv .1)
+
+pub double-row-spec : {M : Type 1} → statement M
+double-row-spec =
+    tie.close
+    (tie.spec
+    Inv-loop
+    μ-loop
+    loop-holds
+    mul-double
+    add-double
+    element-copy-out-double
+    double-requires
+    mul-rows
+    add-rows
+    element-write-rows
+    add-p
+    loop-less
+    loop-again
+    returns)
