@@ -1,1 +1,3 @@
 pub mod Locator
+pub mod Errors
+pub mod Difference

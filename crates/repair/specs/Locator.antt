@@ -1,6 +1,6 @@
 -- The decoder of one plane as definitions: the locator by Berlekamp and Massey, and the error at a place. They exist to be
 -- proved to find what Near says; a reader of the promises needs none of them. Assumes nothing.
-use mathlib.Core.Bool.{Bool, cond}
+use mathlib.Core.Bool.{cond}
 use mathlib.Core.List.{List, [], _∷_}
 use Prim.Native.Nat.{ℕ, zero, suc, _*_, _-_}
 use lib.Dec.{leb, eqb}

@@ -1,0 +1,15 @@
+pub mod Against
+pub mod Monic
+pub mod Shape
+pub mod Steps
+pub mod Massey
+pub mod Size
+pub mod Roots
+pub mod Places
+pub mod Totals
+pub mod Linear
+pub mod Mended
+pub mod Sound
+pub mod Complete
+pub mod Decoder
+pub mod OwnVector

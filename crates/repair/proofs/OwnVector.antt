@@ -1,0 +1,171 @@
+-- From the zero vector to the own one. Moved by the own vector with its check values, the zero bytes with the difference of the
+-- check values become the own vector with the check values received, plane by plane, and back. So what repairs the one repairs
+-- the other, and where the one has no repair neither has the other. Assumes nothing.
+use mathlib.Core.Path.{_≡_, refl, sym, _∙_, ap, ap₂, subst₂}
+use mathlib.Core.Bool.{true}
+use mathlib.Core.List.{List, [], _∷_}
+use Prim.Native.Nat.{ℕ, zero, suc, _<_}
+use native.Mathlib.Omega.{arith}
+use lib.Dec.{eqb}
+use lib.ListN.{length, getD, replicate, length-replicate}
+use borrow.Author.Tests.{eqb-true}
+use Rattle.field.proofs.Xor.{plus-self, plus-zero}
+use Rattle.code.specs.Settings.{Settings, check-count, value-size}
+use Rattle.code.specs.Polynomial.{added}
+use Rattle.code.specs.Vector.{plane, each-long, is-vector, are-checks, has-checks}
+use Rattle.code.specs.Repair.{Near, Repaired, No-repair}
+use Rattle.code.proofs.Bytes.{Bytes, and-split}
+use Rattle.code.proofs.Polynomial.{length-added, bytes-added, getD-added}
+use Rattle.code.proofs.Vector.{Values, values-of, Vector, vector-of, vector-back, Checked, checked-of, plane-length, plane-bytes}
+use Rattle.repair.specs.Difference.{plus-values, zeros}
+use Rattle.repair.proofs.Linear.{plus-again, near-plus}
+
+-- sums of bytes with zeros, with themselves, and twice with the same bytes
+added-zeros : (n : ℕ) (vs : List ℕ) → length vs ≡ n → Bytes vs → added vs (replicate n 0) ≡ vs
+unfolding added
+added-zeros zero [] e b = refl
+added-zeros (suc n) [] e b = absurd (omega arith)
+added-zeros zero (v ∷ vs) e b = absurd (omega arith)
+added-zeros (suc n) (v ∷ vs) e b = ap₂ _∷_ (plus-zero v (b .0)) (added-zeros n vs (omega arith) (b .1))
+
+added-self : (vs : List ℕ) → added vs vs ≡ replicate (length vs) 0
+unfolding added
+added-self [] = refl
+added-self (v ∷ vs) = ap₂ _∷_ (plus-self v) (added-self vs)
+
+added-again : (vs cs : List ℕ) → length vs ≡ length cs → Bytes cs → added vs (added vs cs) ≡ cs
+unfolding added
+added-again [] [] e b = refl
+added-again [] (c ∷ cs) e b = absurd (omega arith)
+added-again (v ∷ vs) [] e b = absurd (omega arith)
+added-again (v ∷ vs) (c ∷ cs) e b =
+    ap₂ _∷_ (plus-again v c (b .0)) (added-again vs cs (omega arith) (b .1))
+
+-- values and their planes
+pub plus-values-length : (vs us : List (List ℕ)) → length vs ≡ length us → length (plus-values vs us) ≡ length vs
+unfolding plus-values
+plus-values-length [] [] e = refl
+plus-values-length [] (u ∷ us) e = absurd (omega arith)
+plus-values-length (v ∷ vs) [] e = refl
+plus-values-length (v ∷ vs) (u ∷ us) e = ap suc (plus-values-length vs us (omega arith))
+
+pub plus-values-values : (w : ℕ) (vs us : List (List ℕ)) → Values w vs → Values w us → Values w (plus-values vs us)
+unfolding plus-values
+plus-values-values w [] us a b = b
+plus-values-values w (v ∷ vs) [] a b = a
+plus-values-values w (v ∷ vs) (u ∷ us) a b =
+    (length-added v u (omega arith) ∙ a .0, bytes-added v u (a .1) (b .1), plus-values-values w vs us (a .2) (b .2))
+
+pub plane-plus : (p w : ℕ) (vs us : List (List ℕ)) → Values w vs → Values w us → plane p (plus-values vs us) ≡ added (plane p vs) (plane p us)
+unfolding plane plus-values added
+plane-plus p w [] us a b = refl
+plane-plus p w (v ∷ vs) [] a b = refl
+plane-plus p w (v ∷ vs) (u ∷ us) a b = ap₂ _∷_ (getD-added v u p (a .1) (b .1)) (plane-plus p w vs us (a .2) (b .2))
+
+zero-byte : (w p : ℕ) → _≡_ {A = ℕ} (getD (replicate w 0) p 0) 0
+zero-byte zero p = refl
+zero-byte (suc w) zero = refl
+zero-byte (suc w) (suc p) = zero-byte w p
+
+plane-replicate : (p n w : ℕ) → plane p (replicate n (replicate w 0)) ≡ replicate n 0
+unfolding plane
+plane-replicate p zero w = refl
+plane-replicate p (suc n) w = ap₂ _∷_ (zero-byte w p) (plane-replicate p n w)
+
+pub plane-zeros : (s : Settings) (p : ℕ) → plane p (zeros s) ≡ replicate (s .n) 0
+unfolding zeros
+plane-zeros s p = plane-replicate p (s .n) (value-size s)
+
+-- the own vector vs with its check values, and check values cs received
+module _ (s : Settings) (vs own cs : List (List ℕ)) (e : is-vector s vs ≡ true) (f : has-checks s vs own ≡ true) (g : are-checks s cs ≡ true) where
+  vector : Vector s vs
+  vector = vector-of s vs e
+
+  checked : Checked s vs own
+  checked = checked-of s vs own f
+
+  received : (length cs ≡ check-count s) × Values (value-size s) cs
+  unfolding are-checks
+  received =
+      let parts = and-split (eqb (length cs) (check-count s)) (each-long (value-size s) cs) g in
+      (eqb-true _ _ (parts .0), values-of (value-size s) cs (parts .1))
+
+  module _ (p : ℕ) where
+    own-long : length (plane p vs) ≡ s .n
+    own-long = plane-length p vs ∙ vector .many
+
+    received-long : length (plane p cs) ≡ check-count s
+    received-long = plane-length p cs ∙ received .0
+
+    pub difference : plane p (plus-values own cs) ≡ added (plane p own) (plane p cs)
+    difference = plane-plus p (value-size s) own cs (checked .values) (received .1)
+
+    pub difference-long : length (plane p (plus-values own cs)) ≡ check-count s
+    difference-long =
+        plane-length p (plus-values own cs) ∙ plus-values-length own cs (checked .many ∙ sym (received .0)) ∙ checked .many
+
+    pub difference-bytes : Bytes (plane p (plus-values own cs))
+    difference-bytes =
+        plane-bytes p (value-size s) (plus-values own cs) (plus-values-values (value-size s) own cs (checked .values) (received .1))
+
+    bytes-moved : added (plane p vs) (plane p (zeros s)) ≡ plane p vs
+    bytes-moved =
+        ap (added (plane p vs)) (plane-zeros s p) ∙ added-zeros (s .n) (plane p vs) own-long (plane-bytes p (value-size s) vs (vector .values))
+
+    checks-moved : added (plane p own) (plane p (plus-values own cs)) ≡ plane p cs
+    checks-moved =
+        ap (added (plane p own)) difference
+        ∙ added-again (plane p own) (plane p cs) (plane-length p own ∙ checked .many ∙ sym received-long) (plane-bytes p (value-size s) cs (received .1))
+
+    bytes-back : added (plane p vs) (plane p vs) ≡ plane p (zeros s)
+    bytes-back = added-self (plane p vs) ∙ ap (λ (n : ℕ). replicate n 0) own-long ∙ sym (plane-zeros s p)
+
+  pub repaired-plus : (es : List (List ℕ)) → Repaired s (zeros s) (plus-values own cs) es → Repaired s vs cs (plus-values vs es)
+  repaired-plus es r =
+      record {
+        vector =
+            vector-back s (plus-values vs es)
+            (record {
+              many = plus-values-length vs es (vector .many ∙ sym (errors .many)) ∙ vector .many;
+              values = plus-values-values (value-size s) vs es (vector .values) (errors .values);
+            });
+        planes = λ p h. let found = r .planes p h in (added (plane p own) (found .0), moved p h (found .0) (found .1));
+      }
+    where
+      errors : Vector s es
+      errors = vector-of s es (r .vector)
+
+      moved :
+          (p : ℕ) → p < value-size s → (ds : List ℕ) → Near s (plane p (zeros s)) (plane p (plus-values own cs)) (plane p es) ds →
+          Near s (plane p vs) (plane p cs) (plane p (plus-values vs es)) (added (plane p own) ds)
+      moved p h ds near =
+          rw (plane-plus p (value-size s) vs es (vector .values) (errors .values))
+          (subst₂ (λ (x y : List ℕ). Near s x y (added (plane p vs) (plane p es)) (added (plane p own) ds)) (bytes-moved p) (checks-moved p)
+          (near-plus s (plane p vs) (plane p own) (plane p (zeros s)) (plane p (plus-values own cs)) (plane p es) ds (checked .planes p h)
+          (ap length (plane-zeros s p) ∙ length-replicate (s .n) 0) (difference-long p) near))
+
+  pub no-repair-plus : No-repair s (zeros s) (plus-values own cs) → No-repair s vs cs
+  no-repair-plus r =
+      record {
+        at-plane = r .at-plane;
+        inside = r .inside;
+        none-near = λ us ds near.
+            r .none-near (added (plane (r .at-plane) vs) us) (added (plane (r .at-plane) own) ds)
+            (subst₂ (λ (x y : List ℕ). Near s x y (added (plane (r .at-plane) vs) us) (added (plane (r .at-plane) own) ds)) (bytes-back (r .at-plane))
+            (sym (difference (r .at-plane)))
+            (near-plus s (plane (r .at-plane) vs) (plane (r .at-plane) own) (plane (r .at-plane) vs) (plane (r .at-plane) cs) us ds
+            (checked .planes (r .at-plane) (r .inside)) (own-long (r .at-plane)) (received-long (r .at-plane)) near));
+      }
+
+  -- from the planes of the difference, each decoded by itself
+  pub repaired-by-planes :
+      (es : List (List ℕ)) → is-vector s es ≡ true →
+      ((p : ℕ) → p < value-size s → (ds : List ℕ) × Near s (replicate (s .n) 0) (plane p (plus-values own cs)) (plane p es) ds) →
+      Repaired s vs cs (plus-values vs es)
+  repaired-by-planes es v found =
+      repaired-plus es (record { vector = v; planes = λ p h. (found p h .0, rw (plane-zeros s p) (found p h .1)) })
+
+  pub no-repair-by-plane :
+      (p : ℕ) → p < value-size s → ((us ds : List ℕ) → Near s (replicate (s .n) 0) (plane p (plus-values own cs)) us ds → ⊥) → No-repair s vs cs
+  no-repair-by-plane p h none =
+      no-repair-plus (record { at-plane = p; inside = h; none-near = λ us ds near. none us ds (rw (plane-zeros s p) at near) })
