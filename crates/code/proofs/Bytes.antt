@@ -6,7 +6,7 @@ use mathlib.Core.List.{List, [], _∷_, _++_, reverse, reverse-cons}
 use Prim.Native.Nat.{ℕ, zero, suc, _+_, _<_, _≤_}
 use native.Mathlib.Omega.{arith}
 use lib.Dec.{ltb}
-use lib.ListN.{getD, take, replicate}
+use lib.ListN.{getD, take, drop, replicate}
 use borrow.Author.Tests.{ltb-true, lt-ltb}
 use Rattle.code.specs.Plane.{byte-list}
 
@@ -78,6 +78,11 @@ pub bytes-take : (n : ℕ) (us : List ℕ) → Bytes us → Bytes (take n us)
 bytes-take zero us b = tt
 bytes-take (suc n) [] b = tt
 bytes-take (suc n) (u ∷ us) b = (b .0, bytes-take n us (b .1))
+
+pub bytes-drop : (n : ℕ) (us : List ℕ) → Bytes us → Bytes (drop n us)
+bytes-drop zero us b = b
+bytes-drop (suc n) [] b = tt
+bytes-drop (suc n) (u ∷ us) b = bytes-drop n us (b .1)
 
 pub bytes-zeros : (n : ℕ) → Bytes (replicate n 0)
 bytes-zeros zero = tt

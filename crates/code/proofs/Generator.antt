@@ -6,13 +6,15 @@ use mathlib.Core.List.{List, _∷_}
 use Prim.Native.Nat.{ℕ, zero, suc, _+_, _<_}
 use native.Mathlib.Omega.{arith}
 use native.Mathlib.Decide.{ℕ-discrete}
+use lib.Dec.{T, eqb, eqb→eq}
 use lib.ListN.{length, getD, List·getD-eq-default}
 use Rattle.field.specs.Field.{plus, times}
+use Rattle.field.proofs.Test.{below, every}
 use Rattle.field.proofs.Xor.{plus-self, plus-lt, plus-zero, zero-plus}
 use Rattle.field.proofs.Times.{times-lt, zero-times, times-zero}
-use Rattle.field.proofs.Power.{power-lt, power-nonzero}
+use Rattle.field.proofs.Power.{power-lt, power-nonzero, doublings, power-doublings}
 use Rattle.field.proofs.Logarithm.{no-zero-divisors}
-use Rattle.code.specs.Polynomial.{eval, scaled, root, times-factor, generator}
+use Rattle.code.specs.Polynomial.{eval, scaled, root, Roots, times-factor, generator}
 use Rattle.code.proofs.Bytes.{Bytes, byte-at}
 use Rattle.code.proofs.Polynomial.{eval-factor, getD-added, getD-scaled, bytes-added, bytes-scaled, length-added, length-scaled}
 
@@ -25,6 +27,11 @@ pub root-nonzero : (i : ℕ) → root i ≡ 0 → ⊥
 unfolding root
 root-nonzero i = power-nonzero (120 + i)
 
+pub roots-tested : (table : List ℕ) → length table ≡ 20 → T (every (λ i. eqb (getD table i 0) (doublings (120 + i) 1)) 20) → Roots table
+unfolding root
+roots-tested table e t =
+    record { many = e; entry = λ i h. eqb→eq _ _ (below (λ j. eqb (getD table j 0) (doublings (120 + j) 1)) 20 t i h) ∙ sym (power-doublings (120 + i)) }
+
 -- one more factor
 length-factor : (c : ℕ) (ps : List ℕ) → length (times-factor c ps) ≡ suc (length ps)
 unfolding times-factor
@@ -34,7 +41,7 @@ bytes-factor : (c : ℕ) (ps : List ℕ) → Bytes ps → Bytes (times-factor c 
 unfolding times-factor
 bytes-factor c ps b = bytes-added (0 ∷ ps) (scaled c ps) (omega arith, b) (bytes-scaled c ps)
 
-getD-factor : (c : ℕ) (ps : List ℕ) (i : ℕ) → c < 256 → Bytes ps → getD (times-factor c ps) i 0 ≡ plus (getD (0 ∷ ps) i 0) (times c (getD ps i 0))
+pub getD-factor : (c : ℕ) (ps : List ℕ) (i : ℕ) → c < 256 → Bytes ps → getD (times-factor c ps) i 0 ≡ plus (getD (0 ∷ ps) i 0) (times c (getD ps i 0))
 unfolding times-factor
 getD-factor c ps i h b =
     getD-added (0 ∷ ps) (scaled c ps) i (omega arith, b) (bytes-scaled c ps) ∙ ap (plus (getD (0 ∷ ps) i 0)) (getD-scaled c ps i h)

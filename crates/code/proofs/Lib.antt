@@ -11,3 +11,6 @@ pub mod Vector
 pub mod Checks
 pub mod Written
 pub mod Multiples
+pub mod Lane
+pub mod Part
+pub mod Division

@@ -3,7 +3,8 @@ use mathlib.Core.Path.{_≡_}
 use mathlib.Core.List.{List, [], _∷_}
 use Prim.Native.Nat.{ℕ, zero, suc, _+_, _*_, _≤_, _<_}
 use lib.ListN.{length, getD, drop}
-use Rattle.field.specs.Field.{plus, times}
+use Rattle.field.specs.Field.{plus, times, power}
+use Rattle.code.specs.Polynomial.{eval}
 
 -- plane p of the first rows
 unfoldable pub lane : (p rows : ℕ) → List ℕ → List ℕ
@@ -22,3 +23,11 @@ pub record Products-added (many : ℕ) (value constants rows rows-now : List ℕ
       (j p : ℕ) → j < many → p < 8 →
       getD rows-now (8 * j + p) 0 ≡ plus (getD rows (8 * j + p) 0) (times (getD value p 0) (getD constants j 0))
   pub rest : (i : ℕ) → 8 * many ≤ i → getD rows-now i 0 ≡ getD rows i 0
+
+-- so many of m rows taken out by a feedback: where r times the feedback's value at r is 1, the rest's value times a power of r
+-- is what the rows' value was
+pub record Divided (steps m : ℕ) (feedback rows rows-now : List ℕ) : Type 0 where
+  pub long : length rows-now ≡ length rows
+  pub value :
+      (p r : ℕ) → p < 8 → r < 256 → times r (eval feedback r) ≡ 1 →
+      times (power r steps) (eval (drop steps (lane p m rows-now)) r) ≡ eval (lane p m rows) r

@@ -30,6 +30,11 @@ multiplied (p ∷ ps) qs = added (scaled p qs) (0 ∷ multiplied ps qs)
 unfoldable pub root : (i : ℕ) → ℕ
 root i = power 2 (120 + i)
 
+-- the table of the twenty roots
+pub record Roots (table : List ℕ) : Type 0 where
+  pub many : length table ≡ 20
+  pub entry : (i : ℕ) → i < 20 → getD table i 0 ≡ root i
+
 -- times (x − c), which is x + c in this field
 unfoldable pub times-factor : (c : ℕ) → List ℕ → List ℕ
 times-factor c ps = added (0 ∷ ps) (scaled c ps)

@@ -1,0 +1,298 @@
+-- The register that divides by the generator. One step takes the lowest coefficient f out and adds f times the feedback to the
+-- rest; where a root times the feedback's value there is 1, the rest times the root is then what the whole was. So after
+-- n steps the rest times the root's n-th power is the value at the start, and the rest is the checks. Assumes nothing.
+use mathlib.Core.Path.{_≡_, refl, sym, _∙_, ap, ap₂, subst}
+use mathlib.Core.Bool.{true}
+use mathlib.Core.List.{List, [], _∷_, _++_, reverse, reverse-reverse}
+use Prim.Native.Nat.{ℕ, zero, suc, _+_, _*_, _-_, _≤_, _<_}
+use native.Mathlib.Omega.{arith}
+use native.Mathlib.Decide.{decLt}
+use native.Mathlib.Nat.{mul-add, mul-comm}
+use native.Mathlib.Numerals.{add-one}
+use lib.ListN.{length, getD, set, take, drop, replicate, List·getD-eq-default, length-drop, length-reverse, length-replicate}
+use lib.Seq.{length-take-le, getD-drop, drop-cons, ext-getD, getD-set-other}
+use borrow.Rule.Slice.PartMut.{putMid, same-len-mid}
+use Rattle.field.specs.Field.{plus, times, power, inverse}
+use Rattle.field.proofs.Xor.{plus-comm, plus-self, plus-lt, plus-zero, zero-plus, equal-of-plus-zero}
+use Rattle.field.proofs.Times.{times-lt, times-plus, times-zero, one-times}
+use Rattle.field.proofs.Power.{power-lt, power-suc, power-zero, power-add, power-mul, order-of-two}
+use Rattle.field.proofs.Logarithm.{times-assoc, times-comm, times-left-comm, times-one}
+use Rattle.field.proofs.Division.{inverse-lt, times-inverse}
+use Rattle.code.specs.Settings.{Settings, settings-refusal, check-count}
+use Rattle.code.specs.Polynomial.{eval, added, scaled, root, generator}
+use Rattle.code.specs.Plane.{syndrome, is-codeword, data-polynomial, check-polynomial}
+use Rattle.code.specs.Array.{Filled}
+use Rattle.code.specs.Lanes.{lane, Products-added, Divided}
+use Rattle.code.proofs.Bytes.{Bytes, byte-at, bytes-drop, bytes-reverse}
+use Rattle.code.proofs.Polynomial.{eval-lt, eval-added, eval-scaled, eval-append, eval-zeros, getD-added, getD-scaled, bytes-scaled, length-added, length-scaled}
+use Rattle.code.proofs.Generator.{root-lt, getD-factor, generator-length, generator-bytes, generator-root, generator-constant}
+use Rattle.code.proofs.Remainder.{syndrome-eval}
+use Rattle.code.proofs.Word.{Sizes, sizes, Shape, word-back}
+use Rattle.code.proofs.Lane.{lane-length, lane-at, lane-bytes}
+use Rattle.code.proofs.Part.{part-lent, part-inside, part-after}
+use Rattle.code.proofs.Written.{all-zero, zero-at, filled-more}
+
+-- the generator in an array: a coefficient of the product by one more factor
+abbrev pub factor-at : (c : ℕ) (fewer : List ℕ) (i : ℕ) → ℕ
+factor-at c fewer i = plus (getD (0 ∷ fewer) i 0) (times c (getD fewer i 0))
+
+below-at : (fewer : List ℕ) (i : ℕ) → 1 ≤ i → getD (0 ∷ fewer) i 0 ≡ getD fewer (i - 1) 0
+below-at fewer zero h = absurd (omega arith)
+below-at fewer (suc i) h = ap (λ (k : ℕ). getD fewer k 0) (let e : i ≡ suc i - 1 = omega arith in e)
+
+-- the first i coefficients of the product, and zeros above them
+pub record Factored (c i : ℕ) (fewer product : List ℕ) : Type 0 where
+  pub some : 1 ≤ i
+  pub filled : Filled 21 i (factor-at c fewer) product
+  pub above : (k : ℕ) → i ≤ k → getD product k 0 ≡ 0
+
+pub factored-first :
+    (c v : ℕ) (fewer rest : List ℕ) → length rest ≡ 20 → all-zero rest ≡ true → v ≡ times c (getD fewer 0 0) → Factored c 1 fewer (v ∷ rest)
+factored-first c v fewer rest l z e = record { some = omega arith; filled = record { long = ap suc l; new = at }; above = above }
+  where
+    at : (i : ℕ) → i < 1 → getD (v ∷ rest) i 0 ≡ factor-at c fewer i
+    at zero h = e ∙ sym (zero-plus _ (times-lt _ _))
+    at (suc i) h = absurd (omega arith)
+
+    above : (k : ℕ) → 1 ≤ k → getD (v ∷ rest) k 0 ≡ 0
+    above zero h = absurd (omega arith)
+    above (suc k) h = zero-at rest z k
+
+pub factored-more :
+    (c i v : ℕ) (fewer product : List ℕ) → Factored c i fewer product → i < 21 → v ≡ plus (getD fewer (i - 1) 0) (times c (getD fewer i 0)) →
+    Factored c (i + 1) fewer (set product i v)
+factored-more c i v fewer product w h e =
+    record {
+      some = omega arith;
+      filled = filled-more 21 i v _ product (w .filled) h (e ∙ ap₂ plus (sym (below-at fewer i (w .some))) refl);
+      above = λ k l. getD-set-other product i k v 0 (omega arith) ∙ w .above k (omega arith);
+    }
+
+-- past the product's coefficients there are only zeros
+pub factored-whole :
+    (c many i : ℕ) (fewer product : List ℕ) → c < 256 → ((k : ℕ) → many ≤ k → getD fewer k 0 ≡ 0) → i ≡ many + 1 → Factored c i fewer product →
+    Filled 21 21 (factor-at c fewer) product
+factored-whole c many i fewer product h z e w = record { long = w .filled .long; new = λ k l. go k (decLt k i) }
+  where
+    go : (k : ℕ) → Dec (k < i) → getD product k 0 ≡ factor-at c fewer k
+    go k (yes l) = w .filled .new k l
+    go k (no l) =
+        w .above k (omega arith)
+        ∙ sym (ap₂ plus (below-at fewer k (omega arith) ∙ z (k - 1) (omega arith)) (ap (times c) (z k (omega arith)) ∙ times-zero c h) ∙ plus-self 0)
+
+-- an array that holds a list holds it everywhere
+pub filled-everywhere :
+    (size : ℕ) (ps array : List ℕ) → length ps ≤ size → Filled size size (λ i. getD ps i 0) array → (i : ℕ) → getD array i 0 ≡ getD ps i 0
+filled-everywhere size ps array h w i = go (decLt i size)
+  where
+    go : Dec (i < size) → getD array i 0 ≡ getD ps i 0
+    go (yes l) = w .new i l
+    go (no l) = List·getD-eq-default array 0 (omega (arith, w .long)) ∙ sym (List·getD-eq-default ps 0 (omega arith))
+
+pub generator-none :
+    (many : ℕ) (rest : List ℕ) → many ≡ 0 → length rest ≡ 20 → all-zero rest ≡ true → Filled 21 21 (λ i. getD (generator many) i 0) (1 ∷ rest)
+unfolding generator
+generator-none (suc k) rest q e z = absurd (omega arith)
+generator-none zero rest q e z = record { long = ap suc e; new = at }
+  where
+    at : (i : ℕ) → i < 21 → getD (1 ∷ rest) i 0 ≡ getD (1 ∷ []) i 0
+    at zero h = refl
+    at (suc i) h = zero-at rest z i
+
+-- one root fewer, in an array
+module _ (k : ℕ) (fewer : List ℕ) (h : k < 20) (f : Filled 21 21 (λ i. getD (generator k) i 0) fewer) where
+  fewer-at : (i : ℕ) → getD fewer i 0 ≡ getD (generator k) i 0
+  fewer-at = filled-everywhere 21 (generator k) fewer (omega (arith, generator-length k)) f
+
+  pub fewer-above : (i : ℕ) → k < i → getD fewer i 0 ≡ 0
+  fewer-above i l = fewer-at i ∙ List·getD-eq-default (generator k) 0 (omega (arith, generator-length k))
+
+  one-more : (c : ℕ) (product : List ℕ) → c ≡ root k → Filled 21 21 (factor-at c fewer) product → Filled 21 21 (λ i. getD (generator (suc k)) i 0) product
+  unfolding generator
+  one-more c product e w = record { long = w .long; new = λ i l. w .new i l ∙ coefficient i }
+    where
+      below : (i : ℕ) → getD (0 ∷ fewer) i 0 ≡ getD (0 ∷ generator k) i 0
+      below zero = refl
+      below (suc i) = fewer-at i
+
+      coefficient : (i : ℕ) → factor-at c fewer i ≡ getD (generator (suc k)) i 0
+      coefficient i =
+          ap₂ plus (below i) (ap₂ times e (fewer-at i)) ∙ sym (getD-factor (root k) (generator k) i (root-lt k) (generator-bytes k))
+
+pub generator-more :
+    (k many c : ℕ) (fewer product : List ℕ) → many ≡ suc k → many ≤ 20 → c ≡ root k → Filled 21 21 (λ i. getD (generator k) i 0) fewer →
+    Filled 21 21 (factor-at c fewer) product → Filled 21 21 (λ i. getD (generator many) i 0) product
+generator-more k many c fewer product q h e f w =
+    subst (λ (m : ℕ). Filled 21 21 (λ i. getD (generator m) i 0) product) (sym q) (one-more k fewer (omega arith) f c product e w)
+
+-- the feedback, the generator less its lowest coefficient and over it: a root times its value there is 1
+pub feedback-root :
+    (many i : ℕ) (hs : List ℕ) → i < many → length hs ≡ many →
+    ((j : ℕ) → j < many → getD hs j 0 ≡ times (getD (generator many) (j + 1) 0) (inverse (getD (generator many) 0 0))) → times (root i) (eval hs (root i)) ≡ 1
+unfolding eval
+feedback-root many i hs h e at = go (generator many) (generator-length many) (generator-bytes many) (generator-root many i h) (generator-constant many) at
+  where
+    r : ℕ
+    r = root i
+
+    go :
+        (g : List ℕ) → length g ≡ suc many → Bytes g → eval g r ≡ 0 → (getD g 0 0 ≡ 0 → ⊥) →
+        ((j : ℕ) → j < many → getD hs j 0 ≡ times (getD g (j + 1) 0) (inverse (getD g 0 0))) → times r (eval hs r) ≡ 1
+    go [] l b z n a = absurd (omega arith)
+    go (g ∷ gs) l b z n a =
+        ap (λ (ps : List ℕ). times r (eval ps r)) same ∙ ap (times r) (eval-scaled (inverse g) gs r (inverse-lt g) (root-lt i))
+        ∙ times-left-comm r (inverse g) (eval gs r) (root-lt i) (inverse-lt g)
+        ∙ ap (times (inverse g)) (sym (equal-of-plus-zero g (times r (eval gs r)) (b .0) (times-lt _ _) z))
+        ∙ times-comm (inverse g) g (inverse-lt g) (b .0) ∙ times-inverse g (b .0) n
+      where
+        same : hs ≡ scaled (inverse g) gs
+        same =
+            ext-getD 0 hs (scaled (inverse g) gs) (e ∙ sym (length-scaled (inverse g) gs ∙ (let q : length gs ≡ many = omega arith in q)))
+            (λ j k.
+            a j (rw e at k) ∙ ap (λ (m : ℕ). times (getD (g ∷ gs) m 0) (inverse g)) (let q : j + 1 ≡ suc j = omega arith in q)
+            ∙ times-comm (getD gs j 0) (inverse g) (byte-at gs j (b .1)) (inverse-lt g) ∙ sym (getD-scaled (inverse g) gs j (inverse-lt g)))
+
+-- exponents of a root that sum up to 255 lead around
+power-root : (i a b : ℕ) → a + b ≡ 255 → times (power (root i) a) (power (root i) b) ≡ 1
+unfolding root
+power-root i a b e =
+    ap₂ times (power-mul (120 + i) a) (power-mul (120 + i) b) ∙ power-add ((120 + i) * a) ((120 + i) * b)
+    ∙ ap (power 2) (sym (mul-add (120 + i) a b) ∙ ap (λ (k : ℕ). (120 + i) * k) e ∙ mul-comm (120 + i) 255) ∙ sym (power-mul 255 (120 + i))
+    ∙ ap (λ (x : ℕ). power x (120 + i)) order-of-two ∙ one-power (120 + i)
+  where
+    one-power : (k : ℕ) → power 1 k ≡ 1
+    one-power zero = power-zero 1
+    one-power (suc k) = power-suc 1 k ∙ one-times (power 1 k) (power-lt 1 k) ∙ one-power k
+
+-- one step of the register, and its value at a root
+pub step-value :
+    (r f : ℕ) (rest hs : List ℕ) → r < 256 → f < 256 → times r (eval hs r) ≡ 1 → times r (eval (added rest (scaled f hs)) r) ≡ eval (f ∷ rest) r
+unfolding eval
+step-value r f rest hs h l e =
+    ap (times r) (eval-added rest (scaled f hs) r h ∙ ap (plus (eval rest r)) (eval-scaled f hs r l h)) ∙ times-plus r _ _ h
+    ∙ ap (plus (times r (eval rest r))) (times-left-comm r f (eval hs r) h l ∙ ap (times f) e ∙ times-one f l) ∙ plus-comm _ f
+
+-- a step on rows of planes: the rows above row s get row s's multiples of the feedback
+pub step-lane :
+    (p s m : ℕ) (hs rows now : List ℕ) → s + length hs < m → Bytes hs → ((i : ℕ) → getD rows i 0 < 256) →
+    ((j : ℕ) → j < length hs → getD now (8 * (suc s + j) + p) 0 ≡ plus (getD rows (8 * (suc s + j) + p) 0) (times (getD rows (8 * s + p) 0) (getD hs j 0))) →
+    ((j : ℕ) → length hs ≤ j → suc s + j < m → getD now (8 * (suc s + j) + p) 0 ≡ getD rows (8 * (suc s + j) + p) 0) →
+    drop (suc s) (lane p m now) ≡ added (drop (suc s) (lane p m rows)) (scaled (getD rows (8 * s + p) 0) hs)
+step-lane p s m hs rows now h b byte near far =
+    ext-getD 0 (drop (suc s) (lane p m now)) (added (drop (suc s) (lane p m rows)) (scaled f hs)) (now-long ∙ sym sum-long) (λ j l. at j (rw now-long at l))
+  where
+    f : ℕ
+    f = getD rows (8 * s + p) 0
+
+    now-long : length (drop (suc s) (lane p m now)) ≡ m - suc s
+    now-long = length-drop (suc s) (lane p m now) ∙ ap (λ (k : ℕ). k - suc s) (lane-length p m now)
+
+    rest-long : length (drop (suc s) (lane p m rows)) ≡ m - suc s
+    rest-long = length-drop (suc s) (lane p m rows) ∙ ap (λ (k : ℕ). k - suc s) (lane-length p m rows)
+
+    sum-long : length (added (drop (suc s) (lane p m rows)) (scaled f hs)) ≡ m - suc s
+    sum-long = length-added (drop (suc s) (lane p m rows)) (scaled f hs) (omega (arith, length-scaled f hs, rest-long)) ∙ rest-long
+
+    coefficient : (j : ℕ) → suc s + j < m → getD (added (drop (suc s) (lane p m rows)) (scaled f hs)) j 0 ≡ plus (getD rows (8 * (suc s + j) + p) 0) (times f (getD hs j 0))
+    coefficient j l =
+        getD-added (drop (suc s) (lane p m rows)) (scaled f hs) j (bytes-drop (suc s) (lane p m rows) (lane-bytes p m rows byte)) (bytes-scaled f hs)
+        ∙ ap₂ plus (getD-drop (suc s) (lane p m rows) j 0 ∙ lane-at p m rows (suc s + j) l) (getD-scaled f hs j (byte _))
+
+    entry : (j : ℕ) → suc s + j < m → Dec (j < length hs) → getD now (8 * (suc s + j) + p) 0 ≡ plus (getD rows (8 * (suc s + j) + p) 0) (times f (getD hs j 0))
+    entry j l (yes d) = near j d
+    entry j l (no d) =
+        far j (omega arith) l ∙ sym (ap (plus _) (ap (times f) (List·getD-eq-default hs 0 (omega arith)) ∙ times-zero f (byte _)) ∙ plus-zero _ (byte _))
+
+    at : (j : ℕ) → j < m - suc s → getD (drop (suc s) (lane p m now)) j 0 ≡ getD (added (drop (suc s) (lane p m rows)) (scaled f hs)) j 0
+    at j l =
+        getD-drop (suc s) (lane p m now) j 0 ∙ lane-at p m now (suc s + j) (omega arith) ∙ entry j (omega arith) (decLt j (length hs))
+        ∙ sym (coefficient j (omega arith))
+
+-- step after step
+pub divided-none : (m : ℕ) (hs rows : List ℕ) → Divided 0 m hs rows rows
+divided-none m hs rows =
+    record { long = refl; value = λ p r h l e. ap (λ (x : ℕ). times x (eval (lane p m rows) r)) (power-zero r) ∙ one-times _ (eval-lt _ r) }
+
+pub divided-more :
+    (s m : ℕ) (hs rows so-far now : List ℕ) → s + length hs < m → Bytes hs → ((i : ℕ) → getD so-far i 0 < 256) → Divided s m hs rows so-far →
+    length now ≡ length so-far →
+    ((j p : ℕ) → j < length hs → p < 8 →
+    getD now (8 * (suc s + j) + p) 0 ≡ plus (getD so-far (8 * (suc s + j) + p) 0) (times (getD so-far (8 * s + p) 0) (getD hs j 0))) →
+    ((j p : ℕ) → length hs ≤ j → suc s + j < m → p < 8 → getD now (8 * (suc s + j) + p) 0 ≡ getD so-far (8 * (suc s + j) + p) 0) →
+    Divided (s + 1) m hs rows now
+divided-more s m hs rows so-far now h b byte d l near far = record { long = l ∙ d .long; value = value }
+  where
+    value :
+        (p r : ℕ) → p < 8 → r < 256 → times r (eval hs r) ≡ 1 →
+        times (power r (s + 1)) (eval (drop (s + 1) (lane p m now)) r) ≡ eval (lane p m rows) r
+    value p r k q e =
+        ap₂ (λ (x : ℕ) (y : List ℕ). times x (eval y r)) (ap (power r) (add-one s) ∙ power-suc r s ∙ times-comm r (power r s) q (power-lt r s))
+        (ap (λ (n : ℕ). drop n (lane p m now)) (add-one s)
+        ∙ step-lane p s m hs so-far now h b byte (λ j g. near j p g k) (λ j g u. far j p g u k))
+        ∙ times-assoc (power r s) r _ (power-lt r s) q ∙ ap (times (power r s)) (step-value r f rest hs q (byte _) e ∙ ap (λ (y : List ℕ). eval y r) (sym whole))
+        ∙ d .value p r k q e
+      where
+        f : ℕ
+        f = getD so-far (8 * s + p) 0
+
+        rest : List ℕ
+        rest = drop (suc s) (lane p m so-far)
+
+        whole : drop s (lane p m so-far) ≡ f ∷ rest
+        whole =
+            drop-cons (lane p m so-far) s 0 (omega (arith, lane-length p m so-far))
+            ∙ ap (λ (x : ℕ). x ∷ rest) (lane-at p m so-far s (omega arith))
+
+pub divided-to : {s k m : ℕ} {hs rows now : List ℕ} → s ≡ k → Divided s m hs rows now → Divided k m hs rows now
+divided-to {s} {k} {m} {hs} {rows} {now} e d = subst (λ (n : ℕ). Divided n m hs rows now) e d
+
+-- a step by products added to the part of the rows that follows row s
+pub divided-part :
+    (s m k : ℕ) (hs value rows so-far part : List ℕ) → k ≡ 8 * length hs → s + length hs < m → length so-far ≡ 8 * m → Bytes hs →
+    ((i : ℕ) → getD so-far i 0 < 256) → Divided s m hs rows so-far → Filled 8 8 (λ p. getD so-far (8 * s + p) 0) value →
+    Products-added (length hs) value hs (take k (drop (8 * s + 8) so-far)) part → Divided (s + 1) m hs rows (putMid (8 * s + 8) k so-far part)
+divided-part s m k hs value rows so-far part e h l b byte d v a =
+    divided-more s m hs rows so-far (putMid (8 * s + 8) k so-far part) h b byte d (same-len-mid (8 * s + 8) k so-far part (a .long))
+    (λ j p g q.
+    ap (λ (i : ℕ). getD (putMid (8 * s + 8) k so-far part) i 0) (place j p) ∙ part-inside (8 * s + 8) k so-far part fits long (8 * j + p) (omega arith)
+    ∙ a .sums j p g q
+    ∙ ap₂ (λ (x y : ℕ). plus x (times y (getD hs j 0)))
+    (part-lent (8 * s + 8) k so-far (8 * j + p) (omega arith) ∙ ap (λ (i : ℕ). getD so-far i 0) (sym (place j p))) (v .new p q))
+    (λ j p g u q. part-after (8 * s + 8) k so-far part fits long (8 * (suc s + j) + p) (omega arith))
+  where
+    place : (j p : ℕ) → 8 * (suc s + j) + p ≡ 8 * s + 8 + (8 * j + p)
+    place j p = omega arith
+
+    fits : 8 * s + 8 + k ≤ length so-far
+    fits = omega arith
+
+    long : length part ≡ k
+    long = a .long ∙ length-take-le k (drop (8 * s + 8) so-far) (omega (arith, length-drop (8 * s + 8) so-far))
+
+-- n steps over the columns, last first: the rest in reverse is the checks
+pub divided-codeword :
+    (s : Settings) (bs rest : List ℕ) → settings-refusal s ≡ 0 → length bs ≡ s .n → Bytes bs → length rest ≡ check-count s → Bytes rest →
+    ((i : ℕ) → i < check-count s → times (power (root i) (s .n)) (eval rest (root i)) ≡ eval (reverse bs) (root i)) → is-codeword s bs (reverse rest) ≡ true
+unfolding data-polynomial check-polynomial
+divided-codeword s bs rest q e b l g value = word-back s bs (reverse rest) (record { shape = shape; roots = zero-at-root })
+  where
+    shape : Shape s bs (reverse rest)
+    shape = record { many = e; many-checks = length-reverse rest ∙ l; bytes = b; check-bytes = bytes-reverse rest g }
+
+    turned : (i : ℕ) → i < check-count s → eval (replicate (255 - length bs) 0 ++ reverse bs) (root i) ≡ eval rest (root i)
+    turned i h =
+        let r = root i in
+        eval-append (replicate (255 - length bs) 0) (reverse bs) r (root-lt i)
+        ∙ ap₂ plus (eval-zeros (255 - length bs) r (root-lt i))
+        (ap₂ (λ (k x : ℕ). times (power r k) x) (length-replicate (255 - length bs) 0) (sym (value i h))
+        ∙ sym (times-assoc (power r (255 - length bs)) (power r (s .n)) (eval rest r) (power-lt r _) (power-lt r _))
+        ∙ ap (λ (x : ℕ). times x (eval rest r)) (around i) ∙ one-times _ (eval-lt rest r))
+        ∙ zero-plus _ (eval-lt rest r)
+      where
+        around : (j : ℕ) → times (power (root j) (255 - length bs)) (power (root j) (s .n)) ≡ 1
+        around j = power-root j (255 - length bs) (s .n) (omega (arith, e, sizes s q .few-columns))
+
+    zero-at-root : (i : ℕ) → i < check-count s → syndrome s i bs (reverse rest) ≡ 0
+    zero-at-root i h =
+        syndrome-eval s i bs (reverse rest) (sizes s q) shape
+        ∙ ap₂ plus (turned i h) (ap (λ (ps : List ℕ). eval ps (root i)) (reverse-reverse rest)) ∙ plus-self _

@@ -1,0 +1,107 @@
+// The generator and the register that divides by it.
+//
+// Places are powers of x, and x^255 is 1 at every root, so column k is x^(-k): the register runs from column n down to
+// column 1 and takes no step through the places that are not in use.
+ghost use mathlib.Core.Path.{_≡_};
+ghost use mathlib.Core.List.{_∷_};
+ghost use Prim.Native.Nat.{ℕ, _+_, _*_, _≤_, _<_};
+ghost use lib.ListN.{length, getD, drop};
+ghost use Rattle.field.specs.Field.{plus, times, inverse};
+ghost use Rattle.field.specs.Table.{Powers, Logarithms};
+ghost use Rattle.code.specs.Polynomial.{Roots, generator as «generator-of»};
+ghost use Rattle.code.specs.Array.{Filled};
+ghost use Rattle.code.specs.Lanes.{Divided};
+use crate::lanes;
+
+// A polynomial times (x + c), of one coefficient more. Past its coefficients the polynomial's array holds zeros.
+fn times_factor(
+    powers: &[u8; 255],
+    logarithms: &[u8; 256],
+    c: u8,
+    fewer: &[u8; 21],
+    many: usize,
+) -> [u8; 21]
+    requires { ⌜ Powers (now powers) × Logarithms (now logarithms) × (many ≤ 20) × ((i : ℕ) → many ≤ i → getD (now fewer) i 0 ≡ 0) ⌝ }
+    ensures { λ r. ⌜ Filled 21 21 (λ i. plus (getD (0 ∷ now (fewer .entry)) i 0) (times c (getD (now (fewer .entry)) i 0))) r ⌝ }
+{
+    let mut product = [0u8; 21];
+    product[0] = field::product_by(powers, logarithms, c, fewer[0]);
+    let mut i = 1;
+    while i <= many {
+        product[i] = field::sum(
+            fewer[i - 1],
+            field::product_by(powers, logarithms, c, fewer[i]),
+        );
+        i += 1;
+    }
+    product
+}
+
+// The generator's coefficients: the generator for one root fewer, times one more factor; for no roots it is 1.
+pub fn generator(
+    powers: &[u8; 255],
+    logarithms: &[u8; 256],
+    roots: &[u8; 20],
+    many: usize,
+) -> [u8; 21]
+    requires { ⌜ Powers (now powers) × Logarithms (now logarithms) × Roots (now roots) × (many ≤ 20) ⌝ }
+    ensures { λ r. ⌜ Filled 21 21 (λ i. getD (generator-of many) i 0) r ⌝ }
+{
+    if many == 0 {
+        let mut one = [0u8; 21];
+        one[0] = 1;
+        return one;
+    }
+    let fewer = generator(powers, logarithms, roots, many - 1);
+    times_factor(powers, logarithms, roots[many - 1], &fewer, many)
+}
+
+// The generator over its lowest coefficient, without that one: what the register feeds back.
+pub fn feedback(
+    powers: &[u8; 255],
+    logarithms: &[u8; 256],
+    generator: &[u8; 21],
+    many: usize,
+) -> [u8; 20]
+    requires { ⌜ Powers (now powers) × Logarithms (now logarithms) × (many ≤ 20) ⌝ }
+    ensures { λ r. ⌜ Filled 20 many (λ j. times (getD (now (generator .entry)) (j + 1) 0) (inverse (getD (now (generator .entry)) 0 0))) r ⌝ }
+{
+    let lowest = field::inverse_by(powers, logarithms, generator[0]);
+    let mut rest = [0u8; 20];
+    let mut j = 0;
+    while j < many {
+        rest[j] = field::product_by(powers, logarithms, generator[j + 1], lowest);
+        j += 1;
+    }
+    rest
+}
+
+// The row's eight bytes.
+fn row(rows: &[u8], s: usize) -> [u8; 8]
+    requires { ⌜ (s < 64) × (8 * s + 8 ≤ length (now rows)) ⌝ }
+    ensures { λ r. ⌜ Filled 8 8 (λ p. getD (now (rows .entry)) (8 * s + p) 0) r ⌝ }
+{
+    let mut value = [0u8; 8];
+    let mut p = 0;
+    while p < 8 {
+        value[p] = rows[8 * s + p];
+        p += 1;
+    }
+    value
+}
+
+// Takes the rows of the columns out one after the other: each adds its multiples of the feedback to the rows above it.
+pub fn divide(feedback: &[u8], rows: &mut [u8], n: usize)
+    requires { ⌜ (n ≤ 32) × (length (now feedback) ≤ 20) × (length (now rows) ≡ 8 * (n + length (now feedback))) ⌝ }
+    ensures { λ _. ⌜ Divided n (n + length (now (feedback .entry))) (now (feedback .entry)) (now (rows .entry)) (now (rows .exit)) ⌝ }
+{
+    let many = feedback.len();
+    let mut s = 0;
+    while s < n {
+        let value = row(rows, s);
+        let from = 8 * s + 8;
+        let to = from + 8 * many;
+        lanes::add_products(&value, feedback, &mut rows[from..to]);
+        s += 1;
+    }
+}
