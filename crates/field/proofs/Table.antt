@@ -10,7 +10,7 @@ use lib.ListN.{length, getD}
 use borrow.Author.Tests.{eqb-true}
 use Rattle.field.specs.Field.{doubled, times, power, inverse}
 use Rattle.field.specs.Table.{each-doubled, Powers, Logarithms}
-use Rattle.field.proofs.Power.{doublings, doublings-none, doublings-inner, power-doublings, power-zero, power-add, power-past}
+use Rattle.field.proofs.Power.{doublings, doublings-none, doublings-inner, power-doublings, power-zero, power-add}
 use Rattle.field.proofs.Logarithm.{doubled-list, doubled-list-at}
 use Rattle.field.proofs.Division.{inverse-power}
 use Rattle.field.proofs.Test.{both, both-left, both-right, every, below}
@@ -56,16 +56,10 @@ logarithms-tested table e t = record { many = e; small = small; exponent = expon
     exponent zero h l = absurd (omega arith)
     exponent (suc a) h l = at a (omega arith) .1
 
--- what is looked up by exponents i and j: the product of 2^i and 2^j, past 255 once around, and the inverse of 2^i
+-- what is looked up by exponents: the product of 2^i and 2^j by that of their sum, and the inverse of 2^i
 module _ (table : List ℕ) (powers : Powers table) where
-  pub product-low : (a b i j : ℕ) → power 2 i ≡ a → power 2 j ≡ b → i + j < 255 → getD table (i + j) 0 ≡ times a b
-  product-low a b i j e f h = powers-at table powers (i + j) h ∙ sym (power-add i j) ∙ ap₂ times e f
-
-  pub product-high :
-      (a b i j : ℕ) → power 2 i ≡ a → power 2 j ≡ b → i < 255 → j < 255 → 255 ≤ i + j → getD table (i + j - 255) 0 ≡ times a b
-  product-high a b i j e f h l g =
-      powers-at table powers (i + j - 255) (omega arith) ∙ sym (power-past (i + j - 255))
-      ∙ ap (power 2) (let s : i + j - 255 + 255 ≡ i + j = omega arith in s) ∙ sym (power-add i j) ∙ ap₂ times e f
+  pub product-at : (a b i j k : ℕ) → power 2 i ≡ a → power 2 j ≡ b → k < 255 → power 2 k ≡ power 2 (i + j) → getD table k 0 ≡ times a b
+  product-at a b i j k e f h g = powers-at table powers k h ∙ g ∙ sym (power-add i j) ∙ ap₂ times e f
 
   pub inverse-at : (a i : ℕ) → power 2 i ≡ a → 1 ≤ i → i < 255 → getD table (255 - i) 0 ≡ inverse a
   inverse-at a i e h l = powers-at table powers (255 - i) (omega arith) ∙ sym (inverse-power i l) ∙ ap inverse e

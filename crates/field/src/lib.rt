@@ -6,6 +6,7 @@ mod tables;
 pub use tables::logarithms;
 pub use tables::powers;
 ghost use mathlib.Core.Path.{_≡_};
+ghost use Prim.Native.Nat.{_<_};
 ghost use Rattle.field.specs.Field.{plus, doubled, times, power, inverse as «inverse-of»};
 ghost use Rattle.field.specs.Table.{Powers, Logarithms};
 
@@ -35,11 +36,19 @@ pub fn product_by(powers: &[u8; 255], logarithms: &[u8; 256], a: u8, b: u8) -> u
     if b == 0 {
         return 0;
     }
-    let exponent = wide(logarithms[a as usize]) + wide(logarithms[b as usize]);
+    let exponent = reduced(wide(logarithms[a as usize]) + wide(logarithms[b as usize]));
+    powers[exponent]
+}
+
+// The exponent below 255 of the same power of 2. No branch is left of it where it is compiled.
+fn reduced(exponent: usize) -> usize
+    requires { ⌜ exponent < 510 ⌝ }
+    ensures { λ r. ⌜ (r < 255) × (power 2 r ≡ power 2 exponent) ⌝ }
+{
     if exponent < 255 {
-        return powers[exponent];
+        return exponent;
     }
-    powers[exponent - 255]
+    exponent - 255
 }
 
 // The byte whose product with a is 1. Of 0, which has none, it is 0.

@@ -13,3 +13,7 @@ pub mod Sound
 pub mod Complete
 pub mod Decoder
 pub mod OwnVector
+pub mod Horner
+pub mod Coefficients
+pub mod Held
+pub mod ByOwnChecks

@@ -1,3 +1,5 @@
 pub mod Locator
 pub mod Errors
 pub mod Difference
+pub mod Held
+pub mod Entry

@@ -5,7 +5,7 @@ use native.Mathlib.Omega.{arith}
 use borrow.Author.Needs.{needs}
 use Rattle.field.specs.Field.{times, power}
 use Rattle.field.proofs.Times.{zero-times, times-zero}
-use Rattle.field.proofs.Table.{product-low, product-high}
+use Rattle.field.proofs.Table.{product-at}
 use Rattle.field.proofs.product_by.Statement.{statement}
 use Rattle.field.proofs.product_by.Tie as tie
 
@@ -49,8 +49,11 @@ module _ (c : tie.After-wide2) where
       let s = c .before .before .before .before .before .before in
       omega (arith, c .wide2 .ensures, s .pre .1 .small (s .args .b) (omega arith) (omega arith))
 
-add-exponent : tie.Need-add-exponent
-add-exponent c = omega (arith, first-small c, second-small c)
+add-reduced : tie.Need-add-reduced
+add-reduced c = omega (arith, first-small c, second-small c)
+
+reduced-requires : tie.Need-reduced-requires
+reduced-requires c κs = omega (arith, first-small c, second-small c)
 
 element-copy-out-result : tie.Need-element-copy-out-result
 element-copy-out-result c = search needs
@@ -59,16 +62,7 @@ returns-3 : tie.Need-returns-3
 returns-3 c =
     let d = c .before .before in
     let s = d .before .before .before .before .before .before in
-    product-low _ (s .pre .0) (s .args .a) (s .args .b) _ _ (first d) (second d) (c .before .if3 .taken)
-
-element-copy-out-result-2 : tie.Need-element-copy-out-result-2
-element-copy-out-result-2 c = omega (arith, first-small (c .before), second-small (c .before))
-
-returns-4 : tie.Need-returns-4
-returns-4 c =
-    let d = c .before .before in
-    let s = d .before .before .before .before .before .before in
-    product-high _ (s .pre .0) (s .args .a) (s .args .b) _ _ (first d) (second d) (first-small d) (second-small d) (c .before .if3 .left)
+    product-at _ (s .pre .0) (s .args .a) (s .args .b) _ _ (c .before .reduced .result) (first d) (second d) (c .before .reduced .ensures .0) (c .before .reduced .ensures .1)
 
 pub product-by-spec : {M : Type 1} → statement M
 product-by-spec =
@@ -80,8 +74,7 @@ product-by-spec =
     wide-requires
     element-copy-out-wide-2
     wide-requires-2
-    add-exponent
+    add-reduced
+    reduced-requires
     element-copy-out-result
-    returns-3
-    element-copy-out-result-2
-    returns-4)
+    returns-3)

@@ -1,0 +1,51 @@
+-- Values: equal ones are the `same`, blank is blank and as long as any value; and a list given entry by entry has those entries.
+-- Each by induction. Assumes nothing.
+use mathlib.Core.Path.{_≡_, refl, sym, _∙_, ap, ap₂}
+use mathlib.Core.Bool.{true, false, _&&_}
+use mathlib.Core.List.{[], _∷_}
+use Prim.Native.Nat.{ℕ, zero, suc, _+_, _<_}
+use native.Mathlib.Omega.{arith}
+use lib.ListN.{length, getD, replicate, length-replicate}
+use borrow.Author.Tests.{eq-eqb}
+use Rattle.code.specs.Settings.{Settings, value-size}
+use Rattle.code.specs.Vector.{same}
+use Rattle.column.specs.Value.{Value, blank, is-blank}
+use Rattle.column.specs.Exchange.{entries}
+use Rattle.column.proofs.Bool.{true-not-false}
+
+pub same-self : (a : Value) → same a a ≡ true
+unfolding same
+same-self [] = refl
+same-self (x ∷ xs) = ap₂ _&&_ (eq-eqb x x refl) (same-self xs)
+
+pub same-of-equal : (a b : Value) → a ≡ b → same a b ≡ true
+same-of-equal a b e = rw e (same-self b)
+
+pub differ-of-not-same : (a b : Value) → same a b ≡ false → a ≡ b → ⊥
+differ-of-not-same a b e f = true-not-false (sym (same-of-equal a b f) ∙ e)
+
+-- blank
+zeros-blank : (w : ℕ) → is-blank (replicate w 0) ≡ true
+unfolding is-blank
+zeros-blank zero = refl
+zeros-blank (suc w) = zeros-blank w
+
+pub blank-is-blank : (s : Settings) → is-blank (blank s) ≡ true
+unfolding blank
+blank-is-blank s = zeros-blank (value-size s)
+
+pub blank-size : (s : Settings) → length (blank s) ≡ value-size s
+unfolding blank
+blank-size s = length-replicate (value-size s) 0
+
+-- lists given entry by entry
+pub entries-length : {A : Type 0} (n i : ℕ) (f : ℕ → A) → length (entries n i f) ≡ n
+unfolding entries
+entries-length zero i f = refl
+entries-length (suc n) i f = ap suc (entries-length n (suc i) f)
+
+pub entries-at : {A : Type 0} (n i j : ℕ) (f : ℕ → A) (d : A) → j < n → getD (entries n i f) j d ≡ f (i + j)
+unfolding entries
+entries-at zero i j f d h = absurd (omega arith)
+entries-at (suc n) i zero f d h = ap f (let e : i ≡ i + 0 = omega arith in e)
+entries-at (suc n) i (suc j) f d h = entries-at n (suc i) j f d (omega arith) ∙ ap f (let e : suc i + j ≡ i + suc j = omega arith in e)

@@ -1,0 +1,111 @@
+-- A column's record: plain data with its round. Assumes nothing: these are definitions.
+use mathlib.Core.Bool.{Bool, true, false, cond}
+use mathlib.Core.List.{List, []}
+use mathlib.Core.Option.{Option, none, some}
+use Prim.Native.Nat.{ℕ, zero, suc, _-_}
+use lib.Dec.{ltb}
+use lib.ListN.{getD, set, replicate}
+use Rattle.code.specs.Settings.{Settings}
+use Rattle.column.specs.Value.{Value, Vector}
+
+-- what a column ends with about a column: a value and its confidence, 2, 1 or 0
+pub record Held : Type 0 where
+  pub value : Value
+  pub confidence : ℕ
+
+-- a value held at a confidence
+unfoldable pub held-as : Value → (confidence : ℕ) → Held
+held-as v c = record { value = v; confidence = c }
+
+-- the record: settings, own number, run number, own value; its round, 1 to 4, where 4 is finished; the frames taken in this round, by slot,
+-- as operands; V from round two on; Y from round three on; values and confidences in round four; the count of refused frames
+pub record Rec : Type 0 where
+  pub settings : Settings
+  pub number : ℕ
+  pub run : ℕ
+  pub own : Value
+  pub round : ℕ
+  pub frames : List (Option (List ℕ))
+  pub heard : Vector
+  pub agreed : Vector
+  pub held : List Held
+  pub refused : ℕ
+
+-- no frame taken yet, in any of n slots
+unfoldable pub no-frames : Settings → List (Option (List ℕ))
+no-frames s = replicate (s .n) none
+
+-- a record as opening makes it: round one, the refused count 0
+unfoldable pub opened : Settings → (number run : ℕ) → (own : Value) → Rec
+opened s k run v =
+    record { settings = s; number = k; run = run; own = v; round = 1; frames = no-frames s; heard = []; agreed = []; held = []; refused = 0 }
+
+-- the frame taken in a slot, if there is one; slots count from 1
+unfoldable pub taken-at : List (Option (List ℕ)) → (slot : ℕ) → Option (List ℕ)
+taken-at fs zero = none
+taken-at fs (suc k) = getD fs k none
+
+-- whether there is one
+unfoldable pub is-taken : Option (List ℕ) → Bool
+is-taken none = false
+is-taken (some x) = true
+
+-- the frame of a sender that counts in this round: the one taken
+unfoldable pub counted : Rec → (slot : ℕ) → Option (List ℕ)
+counted r k = taken-at (r .frames) k
+
+-- the count of refused frames, as it is read for a slot: one count serves them all
+unfoldable pub refused-at : Rec → (slot : ℕ) → ℕ
+refused-at r k = r .refused
+
+-- one more in a count of 32 bits that stays at its top
+unfoldable pub raised : ℕ → ℕ
+raised n = cond (ltb n 4294967295) (suc n) n
+
+-- the record with one more frame refused, that came in this slot
+unfoldable pub with-refused : Rec → (slot : ℕ) → Rec
+with-refused r k =
+    record {
+      settings = r .settings;
+      number = r .number;
+      run = r .run;
+      own = r .own;
+      round = r .round;
+      frames = r .frames;
+      heard = r .heard;
+      agreed = r .agreed;
+      held = r .held;
+      refused = raised (refused-at r k);
+    }
+
+-- the record with the operand of a frame taken in this slot
+unfoldable pub with-frame : Rec → (slot : ℕ) → (operand : List ℕ) → Rec
+with-frame r k x =
+    record {
+      settings = r .settings;
+      number = r .number;
+      run = r .run;
+      own = r .own;
+      round = r .round;
+      frames = set (r .frames) (k - 1) (some x);
+      heard = r .heard;
+      agreed = r .agreed;
+      held = r .held;
+      refused = r .refused;
+    }
+
+-- the record one round on, with V, Y, values and confidences as they are then
+unfoldable pub next-round : Rec → (heard agreed : Vector) → List Held → Rec
+next-round r vs ys hs =
+    record {
+      settings = r .settings;
+      number = r .number;
+      run = r .run;
+      own = r .own;
+      round = suc (r .round);
+      frames = no-frames (r .settings);
+      heard = vs;
+      agreed = ys;
+      held = hs;
+      refused = r .refused;
+    }

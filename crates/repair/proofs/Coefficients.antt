@@ -1,0 +1,147 @@
+-- Arrays that hold polynomials. Two lists are the same polynomial where they agree at every coefficient; raising, multiples and
+-- sums keep that, so a sum worked out on arrays holds the sum of the lists that they hold. A turn of a loop that adds or that
+-- stores changes one coefficient. Assumes nothing.
+use mathlib.Core.Path.{_≡_, refl, sym, _∙_, ap, ap₂}
+use mathlib.Core.List.{List, [], _∷_, _++_}
+use Prim.Native.Nat.{ℕ, zero, suc, _+_, _<_, _≤_}
+use native.Mathlib.Omega.{arith}
+use native.Mathlib.Decide.{ℕ-discrete, decLt}
+use native.Mathlib.Nat.{zero-add, suc-add}
+use lib.ListN.{length, getD, take, drop, set, replicate, length-set, length-take, take-append-drop, List·getD-eq-default}
+use lib.Seq.{getD-set-same, getD-set-other, getD-take, ext-getD, length-take-le}
+use Rattle.field.specs.Field.{plus, times}
+use Rattle.field.proofs.Xor.{plus-zero}
+use Rattle.field.proofs.Times.{times-zero}
+use Rattle.code.specs.Polynomial.{added, scaled}
+use Rattle.code.proofs.Bytes.{Bytes, byte-at, bytes-every}
+use Rattle.code.proofs.Polynomial.{getD-added, getD-scaled, bytes-scaled, length-added, length-scaled}
+use Rattle.repair.specs.Locator.{raised}
+use Rattle.repair.specs.Held.{Holds}
+use Rattle.repair.proofs.Monic.{raised-length}
+
+-- one polynomial: zeros at the end change nothing
+abbrev Same : (p q : List ℕ) → Type 0
+Same p q = (i : ℕ) → getD p i 0 ≡ getD q i 0
+
+same-raised : (s : ℕ) (p q : List ℕ) → Same p q → Same (raised s p) (raised s q)
+unfolding raised
+same-raised zero p q e i = e i
+same-raised (suc s) p q e zero = refl
+same-raised (suc s) p q e (suc i) = same-raised s p q e i
+
+same-take : (n : ℕ) (a p : List ℕ) → length p ≤ n → Holds a p → Same (take n a) p
+same-take n a p h o i = go (decLt i n)
+  where
+    go : Dec (i < n) → getD (take n a) i 0 ≡ getD p i 0
+    go (yes k) = getD-take n a i 0 k ∙ o .at i
+    go (no k) = List·getD-eq-default (take n a) 0 (omega (arith, length-take n a)) ∙ sym (List·getD-eq-default p 0 (omega arith))
+
+pub holds-take : (n : ℕ) (a p : List ℕ) → length p ≡ n → n ≤ 32 → Holds a p → take n a ≡ p
+holds-take n a p e h o =
+    ext-getD 0 (take n a) p (length-take-le n a (omega (arith, o .long)) ∙ sym e) (λ i k. same-take n a p (omega arith) o i)
+
+pub holds-bytes : (a p : List ℕ) → Holds a p → Bytes p → Bytes a
+holds-bytes a p o b = bytes-every a (λ i. rw (o .at i) (byte-at p i b))
+
+-- the sum with a multiple of the first n coefficients of another array, raised by s
+module _ (c s n : ℕ) (h : c < 256) (a b p q : List ℕ) (bytes : Bytes p) (o : Holds a p) where
+  pub holds-added :
+      Holds b q → length q ≤ n → s + n ≤ 32 →
+      Holds (added a (scaled c (raised s (take n b)))) (added p (scaled c (raised s q)))
+  holds-added f l k =
+      record {
+        long =
+            length-added a (scaled c (raised s (take n b)))
+            (rw (length-scaled, raised-length) (omega (arith, length-take n b, o .long))) ∙ o .long;
+        at = λ i.
+            getD-added a (scaled c (raised s (take n b))) i (holds-bytes a p o bytes) (bytes-scaled c _)
+            ∙ ap₂ plus (o .at i)
+            (getD-scaled c (raised s (take n b)) i h
+            ∙ ap (times c) (same-raised s (take n b) q (same-take n b q l f) i) ∙ sym (getD-scaled c (raised s q) i h))
+            ∙ sym (getD-added p (scaled c (raised s q)) i bytes (bytes-scaled c _));
+      }
+
+added-none : (p : List ℕ) → added p [] ≡ p
+unfolding added
+added-none [] = refl
+added-none (x ∷ p) = refl
+
+-- where the shorter one is added to a part, the rest stays
+added-front : (n : ℕ) (p q : List ℕ) → length q ≤ n → length q ≤ length p → added (take n p) q ++ drop n p ≡ added p q
+unfolding added
+added-front n p [] h l = ap (λ (r : List ℕ). r ++ drop n p) (added-none (take n p)) ∙ take-append-drop n p ∙ sym (added-none p)
+added-front n [] (y ∷ q) h l = absurd (omega arith)
+added-front zero (x ∷ p) (y ∷ q) h l = absurd (omega arith)
+added-front (suc n) (x ∷ p) (y ∷ q) h l = ap (λ (r : List ℕ). plus x y ∷ r) (added-front n p q (omega arith) (omega arith))
+
+pub added-middle :
+    (c s n : ℕ) (p q : List ℕ) → c < 256 → Bytes p → length q ≤ n → s + length q ≤ length p →
+    take s p ++ (added (take n (drop s p)) (scaled c q) ++ drop n (drop s p)) ≡ added p (scaled c (raised s q))
+unfolding raised added scaled
+added-middle c zero n p q h b l k = added-front n p (scaled c q) (rw length-scaled l) (rw length-scaled (omega arith))
+added-middle c (suc s) n [] q h b l k = absurd (omega arith)
+added-middle c (suc s) n (x ∷ p) q h b l k =
+    ap₂ (λ (y : ℕ) (r : List ℕ). y ∷ r) (sym (ap (plus x) (times-zero c h) ∙ plus-zero x (b .0)))
+    (added-middle c s n p q h (b .1) l (omega arith))
+
+-- one more coefficient added
+pub added-first : (c : ℕ) (p q : List ℕ) → p ≡ added p (scaled c (take 0 q))
+unfolding scaled
+added-first c p q = sym (added-none p)
+
+pub added-turn :
+    (c i : ℕ) (p q : List ℕ) → i < length q → length q ≤ length p →
+    set (added p (scaled c (take i q))) i (plus (getD (added p (scaled c (take i q))) i 0) (times c (getD q i 0)))
+    ≡ added p (scaled c (take (suc i) q))
+unfolding added scaled
+added-turn c i p [] h l = absurd (omega arith)
+added-turn c i [] (y ∷ q) h l = absurd (omega arith)
+added-turn c zero (x ∷ p) (y ∷ q) h l = ap (λ (r : List ℕ). plus x (times c y) ∷ r) (sym (added-none p))
+added-turn c (suc i) (x ∷ p) (y ∷ q) h l =
+    ap (λ (r : List ℕ). plus x (times c y) ∷ r) (added-turn c i p q (omega arith) (omega arith))
+
+-- an array of zeros holds nothing, at any height
+pub zeros-at : (n i : ℕ) → getD {A = ℕ} (replicate n 0) i 0 ≡ 0
+zeros-at zero i = refl
+zeros-at (suc n) zero = refl
+zeros-at (suc n) (suc i) = zeros-at n i
+
+raised-none : (s i : ℕ) → getD (raised s []) i 0 ≡ 0
+unfolding raised
+raised-none zero i = refl
+raised-none (suc s) zero = refl
+raised-none (suc s) (suc i) = raised-none s i
+
+pub holds-none : (s : ℕ) → Holds (replicate 32 0) (raised s [])
+holds-none s = record { long = refl; at = λ i. zeros-at 32 i ∙ sym (raised-none s i) }
+
+-- one more coefficient stored, at its raised place
+raised-at-last : (s i : ℕ) (p : List ℕ) → getD (raised s (take (suc i) p)) (s + i) 0 ≡ getD p i 0
+unfolding raised
+raised-at-last zero i p = rw (zero-add i) (getD-take (suc i) p i 0 (omega arith))
+raised-at-last (suc s) i p = rw (suc-add s i) (raised-at-last s i p)
+
+take-at-other : (i j : ℕ) (p : List ℕ) → (j ≡ i → ⊥) → getD (take (suc i) p) j 0 ≡ getD (take i p) j 0
+take-at-other zero j [] n = refl
+take-at-other (suc i) j [] n = refl
+take-at-other zero zero (x ∷ p) n = absurd (n refl)
+take-at-other zero (suc j) (x ∷ p) n = refl
+take-at-other (suc i) zero (x ∷ p) n = refl
+take-at-other (suc i) (suc j) (x ∷ p) n = take-at-other i j p (λ e. n (ap suc e))
+
+raised-at-other :
+    (s i j : ℕ) (p : List ℕ) → (j ≡ s + i → ⊥) → getD (raised s (take (suc i) p)) j 0 ≡ getD (raised s (take i p)) j 0
+unfolding raised
+raised-at-other zero i j p n = take-at-other i j p (λ e. n (omega arith))
+raised-at-other (suc s) i zero p n = refl
+raised-at-other (suc s) i (suc j) p n = raised-at-other s i j p (λ e. n (omega arith))
+
+pub holds-stored :
+    (s i : ℕ) (p o : List ℕ) → s + i < 32 → Holds o (raised s (take i p)) →
+    Holds (set o (s + i) (getD p i 0)) (raised s (take (suc i) p))
+holds-stored s i p o h f =
+    record { long = length-set o (s + i) (getD p i 0) ∙ f .long; at = λ j. go j (ℕ-discrete j (s + i)) }
+  where
+    go : (j : ℕ) → Dec (j ≡ s + i) → getD (set o (s + i) (getD p i 0)) j 0 ≡ getD (raised s (take (suc i) p)) j 0
+    go j (yes q) = rw q (getD-set-same o (s + i) (getD p i 0) 0 (omega (arith, f .long)) ∙ sym (raised-at-last s i p))
+    go j (no q) = getD-set-other o (s + i) j (getD p i 0) 0 q ∙ f .at j ∙ sym (raised-at-other s i j p q)

@@ -1,0 +1,65 @@
+-- What the repair calls answer and leave in the lent output. Assumes nothing: these are definitions.
+use mathlib.Core.Path.{_≡_}
+use mathlib.Core.Bool.{true, _||_, not, cond}
+use mathlib.Core.List.{List}
+use mathlib.Core.Logic.{_⊎_}
+use Prim.Native.Nat.{ℕ, zero, suc, _*_}
+use lib.Dec.{ltb, eqb}
+use lib.ListN.{length}
+use Rattle.code.specs.Settings.{Settings, settings, settings-refusal, check-count, value-size}
+use Rattle.code.specs.Vector.{is-vector, are-checks, has-checks, glued}
+use Rattle.code.specs.Repair.{Repaired, No-repair}
+use Rattle.code.specs.Entry.{values-in, in-front}
+use Rattle.repair.specs.Difference.{plus-values, zeros}
+
+-- the answer "none"; every other answer but 0 is a refusal's number
+unfoldable pub none-found : ℕ
+none-found = 256
+
+-- 1 to 3; 18 where the vector is not n values long, the checks are not 2t, or the output has no room for n
+unfoldable pub repair-refusal : Settings → (vector checks room : ℕ) → ℕ
+repair-refusal s v c k =
+    cond (not (eqb (settings-refusal s) 0)) (settings-refusal s)
+    (cond (not (eqb v (s .n * value-size s)) || (not (eqb c (check-count s * value-size s)) || ltb k (s .n * value-size s))) 18 0)
+
+-- the repaired vector in front of the output, or none and the output as it was
+unfoldable pub Done : Settings → (vs cs : List (List ℕ)) → (answer : ℕ) → (out out-now : List ℕ) → Type 0
+Done s vs cs r o z =
+    ((r ≡ 0) × ((us : List (List ℕ)) × Repaired s vs cs us × (z ≡ in-front (glued us) o))) ⊎ ((r ≡ none-found) × No-repair s vs cs × (z ≡ o))
+
+unfoldable pub Repair-as : (number : ℕ) → Settings → (vector checks : List ℕ) → (answer : ℕ) → (out out-now : List ℕ) → Type 0
+Repair-as zero s vs cs r o z = Done s (values-in s (s .n) vs) (values-in s (check-count s) cs) r o z
+Repair-as (suc n) s vs cs r o z = (r ≡ suc n) × (z ≡ o)
+
+-- the contract of `repair`
+unfoldable pub Repair-says : (n t w : ℕ) → (vector checks : List ℕ) → (answer : ℕ) → (out out-now : List ℕ) → Type 0
+Repair-says n t w vs cs r o z =
+    Repair-as (repair-refusal (settings n t w) (length vs) (length cs) (length o)) (settings n t w) vs cs r o z
+
+-- repair by the difference of two lists of check values: the vector of zeros is repaired by the difference, and the vector lent
+-- changed by what it becomes
+unfoldable pub Done-by : Settings → (vs own cs : List (List ℕ)) → (answer : ℕ) → (out out-now : List ℕ) → Type 0
+Done-by s vs own cs r o z =
+    ((r ≡ 0) × ((es : List (List ℕ)) × Repaired s (zeros s) (plus-values own cs) es × (z ≡ in-front (glued (plus-values vs es)) o)))
+    ⊎ ((r ≡ none-found) × No-repair s (zeros s) (plus-values own cs) × (z ≡ o))
+
+-- as for `repair`, and 18 also where the own checks are not 2t values
+unfoldable pub repair-by-refusal : Settings → (vector own checks room : ℕ) → ℕ
+repair-by-refusal s v d c k =
+    cond (not (eqb (repair-refusal s v c k) 0)) (repair-refusal s v c k) (cond (eqb d (check-count s * value-size s)) 0 18)
+
+unfoldable pub Repair-by-as : (number : ℕ) → Settings → (vector own checks : List ℕ) → (answer : ℕ) → (out out-now : List ℕ) → Type 0
+Repair-by-as zero s vs own cs r o z =
+    Done-by s (values-in s (s .n) vs) (values-in s (check-count s) own) (values-in s (check-count s) cs) r o z
+Repair-by-as (suc n) s vs own cs r o z = (r ≡ suc n) × (z ≡ o)
+
+-- the contract of `repair_by`, whatever the own checks are
+unfoldable pub Repair-by-says : (n t w : ℕ) → (vector own checks : List ℕ) → (answer : ℕ) → (out out-now : List ℕ) → Type 0
+Repair-by-says n t w vs own cs r o z =
+    Repair-by-as (repair-by-refusal (settings n t w) (length vs) (length own) (length cs) (length o)) (settings n t w) vs own cs r o z
+
+-- where the own checks are the vector's, both entries promise the same
+unfoldable pub By-own-checks : Type 0
+By-own-checks =
+    (s : Settings) (vs own cs : List (List ℕ)) (r : ℕ) (o z : List ℕ) → is-vector s vs ≡ true → has-checks s vs own ≡ true → are-checks s cs ≡ true →
+    Done-by s vs own cs r o z → Done s vs cs r o z

@@ -1,0 +1,225 @@
+// A plane's locator, by Berlekamp and Massey, and the error at a place.
+//
+// A polynomial is its coefficients, lowest power first. Every function takes the field's two tables as a loan.
+ghost use mathlib.Core.Path.{_≡_};
+ghost use Prim.Native.Nat.{_+_, _*_, _<_, _≤_};
+ghost use lib.ListN.{length, getD, take};
+ghost use Rattle.field.specs.Table.{Powers, Logarithms};
+ghost use Rattle.code.specs.Polynomial.{eval, added, «scaled»};
+ghost use Rattle.repair.specs.Locator.{against, «raised», value, massey, longer, «as-long»};
+ghost use Rattle.repair.specs.Held.{Holds, Stands, Carries};
+
+// The locator, monic of degree `size`, and the last one before it grew, scaled to discrepancy 1. Coefficients past theirs are 0.
+pub struct Locator {
+    pub locator: [u8; 32],
+    pub before: [u8; 32],
+    pub size: usize,
+}
+
+// The locator against the power sums from j on.
+fn discrepancy(
+    powers: &[u8; 255],
+    logarithms: &[u8; 256],
+    locator: &[u8; 32],
+    size: usize,
+    sums: &[u8],
+    j: usize,
+) -> u8
+    requires { ⌜ Powers (now powers) × Logarithms (now logarithms) ⌝ }
+    requires { ⌜ (length (now locator) ≡ 32) × (size < 32) × (j + size < length (now sums)) ⌝ }
+    ensures { λ r. ⌜ r ≡ against (take (size + 1) (now (locator .entry))) (λ i. getD (now (sums .entry)) i 0) j ⌝ }
+{
+    let mut sum: u8 = 0;
+    let mut m = size + 1;
+    while 0 < m {
+        m -= 1;
+        sum = field::sum(
+            field::product_by(powers, logarithms, locator[m], sums[j + m]),
+            sum,
+        );
+    }
+    sum
+}
+
+// The polynomial at x.
+pub fn evaluate(powers: &[u8; 255], logarithms: &[u8; 256], polynomial: &[u8], x: u8) -> u8
+    requires { ⌜ Powers (now powers) × Logarithms (now logarithms) ⌝ }
+    ensures { λ r. ⌜ r ≡ eval (now (polynomial .entry)) x ⌝ }
+{
+    let mut result: u8 = 0;
+    let mut m = polynomial.len();
+    while 0 < m {
+        m -= 1;
+        result = field::sum(
+            polynomial[m],
+            field::product_by(powers, logarithms, x, result),
+        );
+    }
+    result
+}
+
+// The weighted error at the place x, 0 where x is no root. One loop gives the locator's value at x, and its quotient's value and
+// sum against the power sums.
+pub fn error_at(
+    powers: &[u8; 255],
+    logarithms: &[u8; 256],
+    locator: &[u8],
+    sums: &[u8],
+    x: u8,
+) -> u8
+    requires { ⌜ Powers (now powers) × Logarithms (now logarithms) ⌝ }
+    requires { ⌜ length (now locator) ≤ length (now sums) ⌝ }
+    ensures { λ r. ⌜ r ≡ value (λ i. getD (now (sums .entry)) i 0) (now (locator .entry)) x ⌝ }
+{
+    let mut whole: u8 = 0;
+    let mut divided: u8 = 0;
+    let mut sum: u8 = 0;
+    let mut m = locator.len();
+    while 0 < m {
+        m -= 1;
+        sum = field::sum(field::product_by(powers, logarithms, whole, sums[m]), sum);
+        divided = field::sum(whole, field::product_by(powers, logarithms, x, divided));
+        whole = field::sum(locator[m], field::product_by(powers, logarithms, x, whole));
+    }
+    if whole == 0 {
+        return field::product_by(
+            powers,
+            logarithms,
+            sum,
+            field::inverse_by(powers, logarithms, divided),
+        );
+    }
+    0
+}
+
+// The polynomial times x^shift.
+fn raise(polynomial: &[u8], shift: usize) -> [u8; 32]
+    requires { ⌜ shift + length (now polynomial) ≤ 32 ⌝ }
+    ensures { λ r. ⌜ Holds r (raised shift (now (polynomial .entry))) ⌝ }
+{
+    let mut result = [0u8; 32];
+    let mut i = 0;
+    while i < polynomial.len() {
+        result[shift + i] = polynomial[i];
+        i += 1;
+    }
+    result
+}
+
+// Adds `factor` times the other polynomial.
+fn add_scaled(
+    powers: &[u8; 255],
+    logarithms: &[u8; 256],
+    polynomial: &mut [u8],
+    factor: u8,
+    other: &[u8],
+)
+    requires { ⌜ Powers (now powers) × Logarithms (now logarithms) ⌝ }
+    requires { ⌜ length (now other) ≤ length (now polynomial) ⌝ }
+    ensures { λ r. ⌜ now (polynomial .exit) ≡ added (now (polynomial .entry)) (scaled factor (now (other .entry))) ⌝ }
+{
+    let mut i = 0;
+    while i < other.len() {
+        polynomial[i] = field::sum(
+            polynomial[i],
+            field::product_by(powers, logarithms, factor, other[i]),
+        );
+        i += 1;
+    }
+}
+
+// The state after a discrepancy at k that makes the locator longer: x^(k + 1 - 2 size) times the locator, and a multiple of
+// the one before it.
+fn lengthen(
+    powers: &[u8; 255],
+    logarithms: &[u8; 256],
+    state: Locator,
+    k: usize,
+    discrepancy: u8,
+) -> Locator
+    requires { ⌜ Powers (now powers) × Logarithms (now logarithms) ⌝ }
+    requires { ⌜ (length (state .locator) ≡ 32) × (length (state .before) ≡ 32) ⌝ }
+    requires { ⌜ (2 * state .size ≤ k) × (k < 31) ⌝ }
+    ensures { λ r. ⌜ Carries k (longer k discrepancy) state r ⌝ }
+{
+    let size = state.size;
+    let locator = state.locator;
+    let before = state.before;
+    let mut longer = raise(&locator[..size + 1], k + 1 - 2 * size);
+    add_scaled(
+        powers,
+        logarithms,
+        &mut longer,
+        discrepancy,
+        &before[..k + 1 - size],
+    );
+    let inverse = field::inverse_by(powers, logarithms, discrepancy);
+    let mut last = [0u8; 32];
+    add_scaled(powers, logarithms, &mut last, inverse, &locator[..size + 1]);
+    Locator {
+        locator: longer,
+        before: last,
+        size: k + 1 - size,
+    }
+}
+
+// The state after any other discrepancy but 0: a multiple of the one before comes in, times a power of x that keeps the degree.
+fn amend(
+    powers: &[u8; 255],
+    logarithms: &[u8; 256],
+    state: Locator,
+    k: usize,
+    discrepancy: u8,
+) -> Locator
+    requires { ⌜ Powers (now powers) × Logarithms (now logarithms) ⌝ }
+    requires { ⌜ (length (state .locator) ≡ 32) × (length (state .before) ≡ 32) ⌝ }
+    requires { ⌜ (state .size ≤ k) × (k < 2 * state .size) × (k < 31) ⌝ }
+    ensures { λ r. ⌜ Carries k (as-long k discrepancy) state r ⌝ }
+{
+    let size = state.size;
+    let mut locator = state.locator;
+    let before = state.before;
+    let shift = 2 * size - (k + 1);
+    add_scaled(
+        powers,
+        logarithms,
+        &mut locator[shift..],
+        discrepancy,
+        &before[..k + 1 - size],
+    );
+    Locator {
+        locator: locator,
+        before: before,
+        size: size,
+    }
+}
+
+// The locator of the first `many` power sums.
+pub fn locate(powers: &[u8; 255], logarithms: &[u8; 256], sums: &[u8], many: usize) -> Locator
+    requires { ⌜ Powers (now powers) × Logarithms (now logarithms) ⌝ }
+    requires { ⌜ (many ≤ length (now sums)) × (many < 32) ⌝ }
+    ensures { λ r. ⌜ Stands r (massey (λ i. getD (now (sums .entry)) i 0) many) ⌝ }
+{
+    let mut one = [0u8; 32];
+    one[0] = 1;
+    let none = [0u8; 32];
+    let mut state = Locator {
+        locator: one,
+        before: none,
+        size: 0,
+    };
+    let mut k = 0;
+    while k < many {
+        let size = state.size;
+        let d = discrepancy(powers, logarithms, &state.locator, size, sums, k - size);
+        if d != 0 {
+            if 2 * size <= k {
+                state = lengthen(powers, logarithms, state, k, d);
+            } else {
+                state = amend(powers, logarithms, state, k, d);
+            }
+        }
+        k += 1;
+    }
+    state
+}
