@@ -152,6 +152,16 @@ feedback-root many i hs h e at = go (generator many) (generator-length many) (ge
             a j (rw e at k) ∙ ap (λ (m : ℕ). times (getD (g ∷ gs) m 0) (inverse g)) (let q : j + 1 ≡ suc j = omega arith in q)
             ∙ times-comm (getD gs j 0) (inverse g) (byte-at gs j (b .1)) (inverse-lt g) ∙ sym (getD-scaled (inverse g) gs j (inverse-lt g)))
 
+pub feedback-filled :
+    (many : ℕ) (g hs : List ℕ) → many ≤ 20 → Filled 21 21 (λ i. getD (generator many) i 0) g →
+    Filled 20 many (λ j. times (getD g (j + 1) 0) (inverse (getD g 0 0))) hs →
+    Filled 20 many (λ j. times (getD (generator many) (j + 1) 0) (inverse (getD (generator many) 0 0))) hs
+feedback-filled many g hs h f w =
+    record {
+      long = w .long;
+      new = λ j l. w .new j l ∙ ap₂ (λ (a b : ℕ). times a (inverse b)) (f .new (j + 1) (omega arith)) (f .new 0 (omega arith));
+    }
+
 -- exponents of a root that sum up to 255 lead around
 power-root : (i a b : ℕ) → a + b ≡ 255 → times (power (root i) a) (power (root i) b) ≡ 1
 unfolding root
@@ -209,19 +219,22 @@ step-lane p s m hs rows now h b byte near far =
         ∙ sym (coefficient j (omega arith))
 
 -- step after step
-pub divided-none : (m : ℕ) (hs rows : List ℕ) → Divided 0 m hs rows rows
-divided-none m hs rows =
-    record { long = refl; value = λ p r h l e. ap (λ (x : ℕ). times x (eval (lane p m rows) r)) (power-zero r) ∙ one-times _ (eval-lt _ r) }
+pub divided-none : (m : ℕ) (hs rows : List ℕ) → ((i : ℕ) → getD rows i 0 < 256) → Divided 0 m hs rows rows
+divided-none m hs rows b =
+    record { long = refl; bytes = b; value = λ p r h l e. ap (λ (x : ℕ). times x (eval (lane p m rows) r)) (power-zero r) ∙ one-times _ (eval-lt _ r) }
 
 pub divided-more :
-    (s m : ℕ) (hs rows so-far now : List ℕ) → s + length hs < m → Bytes hs → ((i : ℕ) → getD so-far i 0 < 256) → Divided s m hs rows so-far →
-    length now ≡ length so-far →
+    (s m : ℕ) (hs rows so-far now : List ℕ) → s + length hs < m → Bytes hs → Divided s m hs rows so-far → length now ≡ length so-far →
+    ((i : ℕ) → getD now i 0 < 256) →
     ((j p : ℕ) → j < length hs → p < 8 →
     getD now (8 * (suc s + j) + p) 0 ≡ plus (getD so-far (8 * (suc s + j) + p) 0) (times (getD so-far (8 * s + p) 0) (getD hs j 0))) →
     ((j p : ℕ) → length hs ≤ j → suc s + j < m → p < 8 → getD now (8 * (suc s + j) + p) 0 ≡ getD so-far (8 * (suc s + j) + p) 0) →
     Divided (s + 1) m hs rows now
-divided-more s m hs rows so-far now h b byte d l near far = record { long = l ∙ d .long; value = value }
+divided-more s m hs rows so-far now h b d l byte-now near far = record { long = l ∙ d .long; bytes = byte-now; value = value }
   where
+    byte : (i : ℕ) → getD so-far i 0 < 256
+    byte = d .bytes
+
     value :
         (p r : ℕ) → p < 8 → r < 256 → times r (eval hs r) ≡ 1 →
         times (power r (s + 1)) (eval (drop (s + 1) (lane p m now)) r) ≡ eval (lane p m rows) r
@@ -249,10 +262,10 @@ divided-to {s} {k} {m} {hs} {rows} {now} e d = subst (λ (n : ℕ). Divided n m 
 -- a step by products added to the part of the rows that follows row s
 pub divided-part :
     (s m k : ℕ) (hs value rows so-far part : List ℕ) → k ≡ 8 * length hs → s + length hs < m → length so-far ≡ 8 * m → Bytes hs →
-    ((i : ℕ) → getD so-far i 0 < 256) → Divided s m hs rows so-far → Filled 8 8 (λ p. getD so-far (8 * s + p) 0) value →
+    Divided s m hs rows so-far → ((i : ℕ) → getD (putMid (8 * s + 8) k so-far part) i 0 < 256) → Filled 8 8 (λ p. getD so-far (8 * s + p) 0) value →
     Products-added (length hs) value hs (take k (drop (8 * s + 8) so-far)) part → Divided (s + 1) m hs rows (putMid (8 * s + 8) k so-far part)
-divided-part s m k hs value rows so-far part e h l b byte d v a =
-    divided-more s m hs rows so-far (putMid (8 * s + 8) k so-far part) h b byte d (same-len-mid (8 * s + 8) k so-far part (a .long))
+divided-part s m k hs value rows so-far part e h l b d byte v a =
+    divided-more s m hs rows so-far (putMid (8 * s + 8) k so-far part) h b d (same-len-mid (8 * s + 8) k so-far part (a .long)) byte
     (λ j p g q.
     ap (λ (i : ℕ). getD (putMid (8 * s + 8) k so-far part) i 0) (place j p) ∙ part-inside (8 * s + 8) k so-far part fits long (8 * j + p) (omega arith)
     ∙ a .sums j p g q

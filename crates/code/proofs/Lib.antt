@@ -13,4 +13,8 @@ pub mod Written
 pub mod Multiples
 pub mod Lane
 pub mod Part
+pub mod Cut
+pub mod Loading
+pub mod Encoding
 pub mod Division
+pub mod Entry

@@ -22,9 +22,12 @@ checks-refusal s v k =
     cond (not (eqb (settings-refusal s) 0)) (settings-refusal s)
     (cond (not (eqb v (s .n * value-size s)) || ltb k (check-count s * value-size s)) 18 0)
 
+-- the vector's check values in front of the output, the rest of it kept
+unfoldable pub Checks-put : Settings → (vector : List ℕ) → (out out-now : List ℕ) → Type 0
+Checks-put s vs o z = (cs : List (List ℕ)) × (has-checks s (values-in s (s .n) vs) cs ≡ true) × (z ≡ in-front (glued cs) o)
+
 unfoldable pub Checks-as : (number : ℕ) → Settings → (vector : List ℕ) → (answer : ℕ) → (out out-now : List ℕ) → Type 0
-Checks-as zero s vs r o z =
-    (r ≡ 0) × ((cs : List (List ℕ)) × (has-checks s (values-in s (s .n) vs) cs ≡ true) × (z ≡ in-front (glued cs) o))
+Checks-as zero s vs r o z = (r ≡ 0) × Checks-put s vs o z
 Checks-as (suc n) s vs r o z = (r ≡ suc n) × (z ≡ o)
 
 -- the contract of `check_values`: the refusal that applies and every byte kept, or 0 and the check values in front

@@ -11,14 +11,13 @@ use Rattle.code.proofs.register.divide.Statement.{statement}
 use Rattle.code.proofs.register.divide.Tie as tie
 
 abbrev Inv-loop : tie.InvT-loop
-Inv-loop feedback rows₀ n many s₀ rows s =
-    (s ≤ n) × (many ≡ length feedback) × Divided s (n + length feedback) feedback rows₀ rows × ((i : ℕ) → getD rows i 0 < 256)
+Inv-loop feedback rows₀ n many s₀ rows s = (s ≤ n) × (many ≡ length feedback) × Divided s (n + length feedback) feedback rows₀ rows
 
 abbrev μ-loop : tie.MeasureT-loop
 μ-loop feedback rows₀ n many s₀ rows s = n - s
 
 loop-holds : tie.Need-loop-holds Inv-loop μ-loop
-loop-holds c = (omega arith, refl, divided-none _ _ _, λ i. c .slice-known .given i .fits)
+loop-holds c = (omega arith, refl, divided-none _ _ _ (λ i. c .slice-known .given i .fits))
 
 row-requires : tie.Need-row-requires Inv-loop μ-loop
 row-requires c κs = omega arith
@@ -65,9 +64,8 @@ loop-again c =
       omega arith,
       refl,
       divided-part s (f .before .args .n + length hs) (8 * s + 8 + 8 * length hs - (8 * s + 8)) hs _ _ (l .loop .rows) _ (omega arith) (omega arith)
-          (omega (arith, l .loop .inv .2 .long)) (bytes-every hs (λ i. f .shared-slice-known .given i .fits)) (l .loop .inv .3) (l .loop .inv .2)
-          (c .before .before .before .before .before .row .ensures) (c .before .before .add-products .ensures),
-      λ i. c .slice-known2 .given i .fits,
+          (omega (arith, l .loop .inv .2 .long)) (bytes-every hs (λ i. f .shared-slice-known .given i .fits)) (l .loop .inv .2)
+          (λ i. c .slice-known2 .given i .fits) (c .before .before .before .before .before .row .ensures) (c .before .before .add-products .ensures),
     )
 
 same-length : tie.Need-same-length Inv-loop μ-loop

@@ -1,0 +1,72 @@
+-- `load` meets its contract. Assumes nothing.
+use mathlib.Core.Path.{_≡_, refl, _∙_}
+use Prim.Native.Nat.{_+_, _-_, _*_, _≤_}
+use native.Mathlib.Omega.{arith}
+use Rattle.code.specs.Lanes.{Loaded}
+use Rattle.code.proofs.Cut.{value-fits, values-fit}
+use Rattle.code.proofs.Loading.{loaded-none, loaded-more, loaded-to}
+use Rattle.code.proofs.planes.load.Statement.{statement}
+use Rattle.code.proofs.planes.load.Tie as tie
+
+abbrev Inv-loop : tie.InvT-loop
+Inv-loop vector n size rows₀ i₀ rows i = (i ≤ n) × Loaded i n size vector rows
+
+abbrev μ-loop : tie.MeasureT-loop
+μ-loop vector n size rows₀ i₀ rows i = n - i
+
+loop-holds : tie.Need-loop-holds Inv-loop μ-loop
+loop-holds c = (omega arith, loaded-none _ _ _ _ refl refl)
+
+slice-aggregate-copy-value : tie.Need-slice-aggregate-copy-value Inv-loop μ-loop
+slice-aggregate-copy-value c = omega arith
+
+mul-copy-value : tie.Need-mul-copy-value Inv-loop μ-loop
+mul-copy-value c = omega arith
+
+sub-copy-value : tie.Need-sub-copy-value Inv-loop μ-loop
+sub-copy-value c = omega arith
+
+sub-copy-value-2 : tie.Need-sub-copy-value-2 Inv-loop μ-loop
+sub-copy-value-2 c = omega arith
+
+mul-copy-value-2 : tie.Need-mul-copy-value-2 Inv-loop μ-loop
+mul-copy-value-2 c =
+    let a = c .before .before .before .before .args in
+    omega (arith, value-fits (a .n - 1 - c .before .before .loop .i) (a .n) (a .size) (omega arith), values-fit (a .n) (a .size) (omega arith) (omega arith))
+
+copy-value-requires : tie.Need-copy-value-requires Inv-loop μ-loop
+copy-value-requires c κs =
+    let a = c .before .before .before .before .args in
+    omega (arith, value-fits (a .n - 1 - c .before .before .loop .i) (a .n) (a .size) (omega arith), c .before .before .loop .inv .1 .long)
+
+add-i : tie.Need-add-i Inv-loop μ-loop
+add-i c = omega arith
+
+loop-less : tie.Need-loop-less Inv-loop μ-loop
+loop-less c = omega arith
+
+loop-again : tie.Need-loop-again Inv-loop μ-loop
+loop-again c =
+    let l = c .before .before .before .before in
+    (omega arith, loaded-more _ _ _ _ _ _ (l .before .before .pre .1) (l .loop .inv .1) (c .before .copy-value .ensures))
+
+returns : tie.Need-returns Inv-loop μ-loop
+returns c = loaded-to (let e : c .before .loop .i ≡ _ = omega arith in e) (c .before .loop .inv .1)
+
+pub load-spec : {M : Type 1} → statement M
+load-spec =
+    tie.close
+    (tie.spec
+    Inv-loop
+    μ-loop
+    loop-holds
+    slice-aggregate-copy-value
+    mul-copy-value
+    sub-copy-value
+    sub-copy-value-2
+    mul-copy-value-2
+    copy-value-requires
+    add-i
+    loop-less
+    loop-again
+    returns)
