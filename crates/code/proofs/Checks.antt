@@ -7,7 +7,7 @@ use Prim.Native.Nat.{ℕ, zero, suc, _<_}
 use native.Mathlib.Omega.{arith}
 use lib.ListN.{length, getD}
 use lib.Seq.{ext-getD}
-use Rattle.code.specs.Settings.{Settings, settings-refusal, check-count, value-size}
+use Rattle.code.specs.Settings.{Settings, check-count, value-size}
 use Rattle.code.specs.Plane.{is-codeword}
 use Rattle.code.specs.Vector.{plane, has-checks}
 use Rattle.code.specs.Promise.{Checks-there}

@@ -4,12 +4,12 @@
 use mathlib.Core.Path.{_≡_, sym, _∙_, ap, subst}
 use mathlib.Core.Bool.{true}
 use mathlib.Core.List.{List, [], _∷_, _++_, reverse, reverse-cons}
-use Prim.Native.Nat.{ℕ, zero, suc, _+_, _*_, _-_, _≤_, _<_}
+use Prim.Native.Nat.{ℕ, suc, _+_, _*_, _-_, _≤_, _<_}
 use native.Mathlib.Omega.{arith}
-use native.Mathlib.Decide.{decLt, ℕ-discrete}
+use native.Mathlib.Decide.{decLt}
 use lib.ListN.{length, getD, take, drop, length-drop, length-reverse, List·getD-append, List·getD-eq-default}
 use lib.Seq.{ext-getD, getD-take, getD-drop, getD-append-add, length-take-le}
-use Rattle.field.specs.Field.{times, power, inverse}
+use Rattle.field.specs.Field.{times, inverse}
 use Rattle.code.specs.Settings.{Settings, settings, settings-refusal, check-count, value-size}
 use Rattle.code.specs.Polynomial.{eval, root, generator}
 use Rattle.code.specs.Plane.{is-codeword}
@@ -19,12 +19,13 @@ use Rattle.code.specs.Array.{Filled}
 use Rattle.code.specs.Lanes.{lane, Divided, Loaded, Stored}
 use Rattle.code.proofs.Bytes.{Bytes, bytes-drop}
 use Rattle.code.proofs.Polynomial.{eval-ext}
-use Rattle.code.proofs.Generator.{root-lt, generator-length}
+use Rattle.code.proofs.Generator.{root-lt}
 use Rattle.code.proofs.Word.{Sizes, sizes}
 use Rattle.code.proofs.Vector.{plane-length, plane-bytes, checked-back}
 use Rattle.code.proofs.Lane.{lane-length, lane-at, lane-bytes}
 use Rattle.code.proofs.Cut.{cut-length, cut-values, plane-cut, in-front-cut}
-use Rattle.code.proofs.Division.{filled-everywhere, feedback-root, divided-codeword}
+use Rattle.code.proofs.Factors.{feedback-root}
+use Rattle.code.proofs.Division.{divided-codeword}
 
 pub getD-reverse : (l : List ℕ) (i : ℕ) → i < length l → getD (reverse l) i 0 ≡ getD l (length l - 1 - i) 0
 getD-reverse [] i h = absurd (omega arith)

@@ -9,6 +9,7 @@ pub mod Generator
 pub mod Remainder
 pub mod Vector
 pub mod Checks
+pub mod Quick
 pub mod Written
 pub mod Multiples
 pub mod Lane
@@ -16,5 +17,6 @@ pub mod Part
 pub mod Cut
 pub mod Loading
 pub mod Encoding
+pub mod Factors
 pub mod Division
 pub mod Entry

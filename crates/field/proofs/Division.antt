@@ -3,8 +3,8 @@ use mathlib.Core.Path.{_≡_, refl, sym, _∙_, ap}
 use Prim.Native.Nat.{ℕ, _+_, _*_, _-_, _%_, _<_}
 use native.Mathlib.Omega.{arith}
 use Rattle.field.specs.Field.{plus, xor-from, doubled, times, times-from, power, inverse}
-use Rattle.field.proofs.Times.{one-times, zero-times}
-use Rattle.field.proofs.Power.{power-zero, power-suc, power-lt, power-add, power-mul, power-nonzero, power-mod, order-of-two}
+use Rattle.field.proofs.Times.{zero-times}
+use Rattle.field.proofs.Power.{power-suc, power-lt, power-add, power-mul, power-mod, order-of-two}
 use Rattle.field.proofs.Logarithm.{logarithm, times-assoc, times-comm, times-one}
 
 pub inverse-zero : inverse 0 ≡ 0

@@ -3,7 +3,7 @@
 use mathlib.Core.Path.{_≡_, refl, sym, _∙_, ap, ap₂}
 use mathlib.Core.Bool.{Bool, true, false}
 use mathlib.Core.List.{List, [], _∷_}
-use Prim.Native.Nat.{ℕ, zero, suc, _+_, _<_}
+use Prim.Native.Nat.{ℕ, zero, suc, _<_}
 use native.Mathlib.Omega.{arith}
 use native.Mathlib.Nat.{add-comm}
 use native.Mathlib.Decide.{ℕ-discrete}
@@ -11,8 +11,8 @@ use lib.Dec.{T, eqb, eqb→eq}
 use lib.ListN.{getD}
 use Rattle.field.specs.Field.{plus, xor-from, doubled, times, power}
 use Rattle.field.proofs.Xor.{plus-lt}
-use Rattle.field.proofs.Times.{times-lt, times-plus, one-times, zero-times, times-zero}
-use Rattle.field.proofs.Power.{doublings, doublings-none, doublings-inner, doublings-nonzero, power-doublings, power-lt, power-times, power-times-assoc, power-add}
+use Rattle.field.proofs.Times.{times-plus, one-times, zero-times, times-zero}
+use Rattle.field.proofs.Power.{doublings, doublings-none, doublings-inner, doublings-nonzero, power-doublings, power-times, power-times-assoc, power-add}
 use Rattle.field.proofs.Test.{below, every}
 
 -- x, and as many doublings of it as make the list that long

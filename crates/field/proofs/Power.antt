@@ -1,8 +1,8 @@
 -- The powers of 2 are repeated doublings of 1, and multiplying by one doubles that often. So exponents add, doubling never
 -- leads to 0, and two of the 255 powers are equal only where a power below 255 is 1, which one computed test rules out.
 -- Assumes nothing.
-use mathlib.Core.Path.{_≡_, refl, sym, _∙_, ap, ap₂, subst}
-use mathlib.Core.Bool.{Bool, true, false, not}
+use mathlib.Core.Path.{_≡_, refl, sym, _∙_, ap, subst}
+use mathlib.Core.Bool.{Bool, true, not}
 use Prim.Native.Nat.{ℕ, zero, suc, _+_, _*_, _-_, _%_, _/_, _<_}
 use native.Mathlib.Omega.{arith}
 use native.Mathlib.Nat.{zero-add, suc-add, mul-zero, mul-suc, add-comm}

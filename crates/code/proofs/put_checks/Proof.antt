@@ -8,7 +8,7 @@ use lib.Seq.{length-take-le}
 use Rattle.code.specs.Settings.{settings}
 use Rattle.code.proofs.Bytes.{bytes-every}
 use Rattle.code.proofs.Word.{sizes}
-use Rattle.code.proofs.Division.{feedback-filled}
+use Rattle.code.proofs.Factors.{feedback-filled}
 use Rattle.code.proofs.Encoding.{checks-put}
 use borrow.Author.Needs.{needs}
 use Rattle.code.proofs.put_checks.Statement.{statement}

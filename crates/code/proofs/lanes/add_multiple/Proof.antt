@@ -1,10 +1,10 @@
 -- `add_multiple` meets its contract: each byte is read before it is written. Assumes nothing.
 use mathlib.Core.Path.{_≡_, refl, _∙_, ap₂}
-use Prim.Native.Nat.{ℕ, _+_, _*_, _-_, _≤_, _<_}
+use Prim.Native.Nat.{_+_, _*_, _-_, _≤_}
 use native.Mathlib.Omega.{arith}
-use lib.ListN.{length, getD}
+use lib.ListN.{getD}
 use borrow.Author.Needs.{needs}
-use Rattle.field.specs.Field.{plus, doubled}
+use Rattle.field.specs.Field.{plus}
 use Rattle.code.specs.Array.{Written}
 use Rattle.code.proofs.Written.{written-none, written-more, written-to}
 use Rattle.code.proofs.lanes.add_multiple.Statement.{statement}

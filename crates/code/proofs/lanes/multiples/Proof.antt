@@ -2,7 +2,6 @@
 use mathlib.Core.Path.{_≡_, refl}
 use Prim.Native.Nat.{_-_, _≤_}
 use native.Mathlib.Omega.{arith}
-use borrow.Author.Needs.{needs}
 use Rattle.code.proofs.Multiples.{Multiples-to, multiples-none, multiples-step, multiples-whole}
 use Rattle.code.proofs.lanes.multiples.Statement.{statement}
 use Rattle.code.proofs.lanes.multiples.Tie as tie

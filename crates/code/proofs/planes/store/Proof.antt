@@ -1,6 +1,6 @@
 -- `store` meets its contract. Assumes nothing.
-use mathlib.Core.Path.{_≡_, refl, _∙_}
-use Prim.Native.Nat.{_+_, _-_, _*_, _≤_}
+use mathlib.Core.Path.{_≡_}
+use Prim.Native.Nat.{_-_, _≤_}
 use native.Mathlib.Omega.{arith}
 use Rattle.code.specs.Lanes.{Stored}
 use Rattle.code.proofs.Cut.{value-fits, values-fit}

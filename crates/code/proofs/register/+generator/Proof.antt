@@ -1,7 +1,7 @@
 -- `generator` meets its contract, by recursion on the number of roots, which is the measure. Assumes nothing.
 use mathlib.Core.Path.{refl}
 use native.Mathlib.Omega.{arith}
-use Rattle.code.proofs.Division.{generator-none, fewer-above, generator-more}
+use Rattle.code.proofs.Factors.{generator-none, fewer-above, generator-more}
 use Prim.Native.Nat.{ℕ, _-_, _<_}
 use borrow.Fn.Kinds.{In}
 use borrow.Fn.PlainCycle.{Measures, is, falls, and}

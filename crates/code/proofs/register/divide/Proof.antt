@@ -1,9 +1,8 @@
 -- `divide` meets its contract: each turn is one step of the division, on a part of the rows. Assumes nothing.
-use mathlib.Core.Path.{_≡_, refl, sym, _∙_, ap}
-use Prim.Native.Nat.{ℕ, _+_, _*_, _-_, _≤_, _<_}
+use mathlib.Core.Path.{_≡_, refl}
+use Prim.Native.Nat.{_+_, _*_, _-_, _≤_}
 use native.Mathlib.Omega.{arith}
-use lib.ListN.{length, getD}
-use borrow.Author.Needs.{needs}
+use lib.ListN.{length}
 use Rattle.code.specs.Lanes.{Divided}
 use Rattle.code.proofs.Bytes.{bytes-every}
 use Rattle.code.proofs.Division.{divided-none, divided-part, divided-to}

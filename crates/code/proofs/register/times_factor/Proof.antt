@@ -1,11 +1,11 @@
 -- `times_factor` meets its contract: the coefficients up to the highest are written one after the other, and past it there are
 -- only zeros. Assumes nothing.
-use mathlib.Core.Path.{_≡_, refl, _∙_, ap}
+use mathlib.Core.Path.{refl, _∙_, ap}
 use Prim.Native.Nat.{_+_, _-_, _≤_}
 use native.Mathlib.Omega.{arith}
 use borrow.Author.Needs.{needs}
 use Rattle.field.specs.Field.{plus}
-use Rattle.code.proofs.Division.{Factored, factored-first, factored-more, factored-whole}
+use Rattle.code.proofs.Factors.{Factored, factored-first, factored-more, factored-whole}
 use Rattle.code.proofs.register.times_factor.Statement.{statement}
 use Rattle.code.proofs.register.times_factor.Tie as tie
 
