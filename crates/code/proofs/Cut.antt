@@ -11,7 +11,7 @@ use lib.Seq.{getD-take, getD-drop, length-take-le, ext-getD}
 use Rattle.code.specs.Vector.{plane, cut, glued}
 use Rattle.code.specs.Entry.{in-front}
 use Rattle.code.proofs.Bytes.{Bytes, bytes-take, bytes-drop}
-use Rattle.code.proofs.Vector.{Values}
+use Rattle.code.proofs.Vector.{Values, plane-length}
 
 -- places
 pub next-value : (j w : ℕ) → (j + 1) * w ≡ j * w + w
@@ -28,6 +28,9 @@ pub cut-length : (n w : ℕ) (bs : List ℕ) → length (cut n w bs) ≡ n
 unfolding cut
 cut-length zero w bs = refl
 cut-length (suc n) w bs = ap suc (cut-length n w (drop w bs))
+
+pub plane-cut-length : (p n w : ℕ) (bs : List ℕ) → length (plane p (cut n w bs)) ≡ n
+plane-cut-length p n w bs = plane-length p (cut n w bs) ∙ cut-length n w bs
 
 pub cut-values : (n w : ℕ) (bs : List ℕ) → n * w ≤ length bs → Bytes bs → Values w (cut n w bs)
 unfolding cut

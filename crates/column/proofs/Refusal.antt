@@ -1,7 +1,7 @@
 -- What it says that a call is not turned down. Each line of the table is a test, and a chain of lines ends at 0 only if every line
 -- does; read the other way, a frame that fits can be turned down for one reason only, that it came before. Assumes nothing.
 use mathlib.Core.Path.{_≡_, refl, sym, _∙_, ap, ap₂}
-use mathlib.Core.Bool.{Bool, true, false, cond, _&&_, not}
+use mathlib.Core.Bool.{Bool, true, false, cond, _&&_, _||_, not}
 use mathlib.Core.List.{List}
 use Prim.Native.Nat.{ℕ, _≤_}
 use native.Mathlib.Omega.{arith}

@@ -21,6 +21,7 @@ use Rattle.code.proofs.Bytes.{Bytes}
 use Rattle.code.proofs.Word.{word-of}
 use Rattle.code.proofs.Near.{one-near}
 use Rattle.code.proofs.Vector.{Values, vector-of, vector-back, plane-length, planes-same, checked-of, repairs}
+use Rattle.code.proofs.Cut.{cut-length}
 use Rattle.column.specs.Value.{Value, Vector, Rows, blanks}
 use Rattle.column.specs.Frame.{checks-in}
 use Rattle.column.specs.Record.{Rec, counted}
@@ -78,11 +79,6 @@ table-sized r vs rows low v t j h =
     table-rows (λ i row. Sized (r .settings) row) r vs rows low t v (λ i row l d x e. row-sized (r .settings) vs _ row x) j h
 
 -- repair has one answer
-pub cut-length : (n w : ℕ) (bs : List ℕ) → length (cut n w bs) ≡ n
-unfolding cut
-cut-length zero w bs = refl
-cut-length (suc n) w bs = ap suc (cut-length n w (drop w bs))
-
 checks-length : (s : Settings) (x : List ℕ) → length (checks-in s x) ≡ check-count s
 unfolding checks-in values-in
 checks-length s x = cut-length (check-count s) (value-size s) x

@@ -13,7 +13,16 @@ pub mod Sound
 pub mod Complete
 pub mod Decoder
 pub mod OwnVector
+pub mod ByOwnChecks
 pub mod Horner
 pub mod Coefficients
 pub mod Held
-pub mod ByOwnChecks
+pub mod Zeros
+pub mod CheckRows
+pub mod Terms
+pub mod CheckSums
+pub mod ErrorSums
+pub mod PlaceRows
+pub mod PlacePowers
+pub mod ColumnErrors
+pub mod Located

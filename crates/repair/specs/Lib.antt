@@ -2,4 +2,6 @@ pub mod Locator
 pub mod Errors
 pub mod Difference
 pub mod Held
+pub mod Rows
+pub mod Search
 pub mod Entry

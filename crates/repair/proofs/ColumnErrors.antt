@@ -1,0 +1,188 @@
+-- The errors of the columns added to a vector, value by value: one more column is one more value behind those before it, in the
+-- values that bytes are cut into, in their sum with the errors, and in the bytes that they are glued to. So what a loop over the
+-- columns writes is the vector and its errors, glued, in front of the output. Assumes nothing.
+use mathlib.Core.Path.{_≡_, refl, sym, _∙_, ap, ap₂}
+use mathlib.Core.List.{List, [], _∷_, _++_, append-assoc, append-nil}
+use Prim.Native.Nat.{ℕ, zero, suc, _+_, _*_, _-_, _<_, _≤_}
+use native.Mathlib.Omega.{arith}
+use native.Mathlib.Nat.{add-mul, mul-le-mul-right}
+use native.Mathlib.Numerals.{add-one}
+use lib.ListN.{length, getD, take, drop, length-append, length-drop}
+use lib.Seq.{length-take-le, take-at, drop-at, drop-drop, ext-getD}
+use Rattle.field.specs.Field.{plus, times, power, inverse}
+use Rattle.field.proofs.Power.{power-lt}
+use Rattle.code.specs.Array.{Filled}
+use Rattle.code.specs.Polynomial.{added, scaled}
+use Rattle.code.specs.Vector.{cut, glued}
+use Rattle.code.specs.Entry.{in-front}
+use Rattle.code.proofs.Bytes.{Bytes, bytes-take}
+use Rattle.code.proofs.Polynomial.{getD-added, getD-scaled, length-added, length-scaled, bytes-scaled}
+use Rattle.code.proofs.Cut.{cut-length}
+use Rattle.repair.specs.Difference.{plus-values}
+use Rattle.repair.specs.Search.{column-errors}
+use Rattle.repair.proofs.PlacePowers.{weight-inverse}
+
+-- one more value
+next-product : (k w : ℕ) → w + k * w ≡ suc k * w
+next-product k w = omega (arith, add-mul k 1 w)
+
+cut-more : (k w : ℕ) (bs : List ℕ) → cut (suc k) w bs ≡ cut k w bs ++ (take w (drop (k * w) bs) ∷ [])
+unfolding cut
+cut-more zero w bs = ap (λ (i : ℕ). take w (drop i bs) ∷ []) (let e : 0 ≡ 0 * w = omega arith in e)
+cut-more (suc k) w bs =
+    ap (_∷_ (take w bs))
+    (cut-more k w (drop w bs)
+    ∙ ap (λ (us : List ℕ). cut k w (drop w bs) ++ (take w us ∷ [])) (drop-drop (k * w) w bs ∙ ap (λ (i : ℕ). drop i bs) (next-product k w)))
+
+column-errors-more :
+    (n k w : ℕ) (ys : List ℕ) →
+    column-errors (suc n) k w ys ≡ column-errors n k w ys ++ (scaled (inverse (power 2 (120 * (254 - (k + n))))) (take w (drop (8 * n) ys)) ∷ [])
+unfolding column-errors
+column-errors-more zero k w ys =
+    ap (λ (i : ℕ). scaled (inverse (power 2 (120 * (254 - i)))) (take w ys) ∷ []) (let e : k ≡ k + 0 = omega arith in e)
+column-errors-more (suc n) k w ys =
+    ap (_∷_ (scaled (inverse (power 2 (120 * (254 - k)))) (take w ys)))
+    (column-errors-more n (suc k) w (drop 8 ys)
+    ∙ ap₂ (λ (i : ℕ) (us : List ℕ). column-errors n (suc k) w (drop 8 ys) ++ (scaled (inverse (power 2 (120 * (254 - i)))) (take w us) ∷ []))
+    (let e : suc k + n ≡ k + suc n = omega arith in e)
+    (drop-drop (8 * n) 8 ys ∙ ap (λ (i : ℕ). drop i ys) (let e : 8 + 8 * n ≡ 8 * suc n = omega arith in e)))
+
+plus-values-more :
+    (vs us : List (List ℕ)) (v u : List ℕ) → length vs ≡ length us → plus-values (vs ++ (v ∷ [])) (us ++ (u ∷ [])) ≡ plus-values vs us ++ (added v u ∷ [])
+unfolding plus-values
+plus-values-more [] [] v u e = refl
+plus-values-more [] (y ∷ us) v u e = absurd (omega arith)
+plus-values-more (x ∷ vs) [] v u e = absurd (omega arith)
+plus-values-more (x ∷ vs) (y ∷ us) v u e = ap (_∷_ (added x y)) (plus-values-more vs us v u (omega arith))
+
+glued-more : (vs : List (List ℕ)) (v : List ℕ) → glued (vs ++ (v ∷ [])) ≡ glued vs ++ v
+unfolding glued
+glued-more [] v = append-nil v
+glued-more (x ∷ vs) v = ap (λ (bs : List ℕ). x ++ bs) (glued-more vs v) ∙ sym (append-assoc x (glued vs) v)
+
+pub column-errors-length : (n k w : ℕ) (ys : List ℕ) → length (column-errors n k w ys) ≡ n
+unfolding column-errors
+column-errors-length zero k w ys = refl
+column-errors-length (suc n) k w ys = ap suc (column-errors-length n (suc k) w (drop 8 ys))
+
+-- the first columns of a vector with their errors added, as bytes
+unfoldable pub mended-front : (columns size : ℕ) → (vector weighted : List ℕ) → List ℕ
+mended-front k w vs ys = glued (plus-values (cut k w vs) (column-errors k 0 w ys))
+
+mended-front-more :
+    (k w : ℕ) (vs ys : List ℕ) →
+    mended-front (suc k) w vs ys
+    ≡ mended-front k w vs ys ++ added (take w (drop (k * w) vs)) (scaled (inverse (power 2 (120 * (254 - k)))) (take w (drop (8 * k) ys)))
+unfolding mended-front
+mended-front-more k w vs ys =
+    ap glued
+    (ap₂ plus-values (cut-more k w vs)
+    (column-errors-more k 0 w ys
+    ∙ ap (λ (i : ℕ). column-errors k 0 w ys ++ (scaled (inverse (power 2 (120 * (254 - i)))) (take w (drop (8 * k) ys)) ∷ []))
+    (let e : 0 + k ≡ k = omega arith in e))
+    ∙ plus-values-more (cut k w vs) (column-errors k 0 w ys) _ _ (cut-length k w vs ∙ sym (column-errors-length k 0 w ys)))
+    ∙ glued-more (plus-values (cut k w vs) (column-errors k 0 w ys)) _
+
+-- a value with its errors, as written byte by byte
+bytes-drop : (n : ℕ) (us : List ℕ) → Bytes us → Bytes (drop n us)
+bytes-drop zero us b = b
+bytes-drop (suc n) [] b = tt
+bytes-drop (suc n) (u ∷ us) b = bytes-drop n us (b .1)
+
+value-added :
+    (c w : ℕ) (vs es now : List ℕ) → c < 256 → Bytes vs → length vs ≡ w → length es ≡ w →
+    Filled w w (λ p. plus (getD vs p 0) (times c (getD es p 0))) now → now ≡ added vs (scaled c es)
+value-added c w vs es now h b l m f =
+    ext-getD 0 now (added vs (scaled c es)) (f .long ∙ sym (length-added vs (scaled c es) (omega (arith, length-scaled c es)) ∙ l))
+    (λ p k.
+    f .new p (rw (f .long) at k)
+    ∙ sym (getD-added vs (scaled c es) p b (bytes-scaled c es) ∙ ap (plus (getD vs p 0)) (getD-scaled c es p h)))
+
+-- what the loop has written after k columns: up to a place, and the old output from there on
+pub record Mended-to (k at size : ℕ) (vector weighted output output-now : List ℕ) : Type 0 where
+  pub place : at ≡ k * size
+  pub long : length (mended-front k size vector weighted) ≡ at
+  pub bytes : output-now ≡ mended-front k size vector weighted ++ drop at output
+
+pub mended-none : (size : ℕ) (vs ys output : List ℕ) → Mended-to 0 0 size vs ys output output
+unfolding mended-front glued plus-values cut column-errors
+mended-none size vs ys output = record { place = omega arith; long = refl; bytes = refl }
+
+pub part-long : (at w : ℕ) (bs : List ℕ) → at + w ≤ length bs → length (take (at + w - at) (drop at bs)) ≡ w
+part-long at w bs h = length-take-le (at + w - at) (drop at bs) (omega (arith, length-drop at bs)) ∙ omega arith
+
+pub mended-long :
+    {k at w : ℕ} {vs ys output now : List ℕ} → Mended-to k at w vs ys output now → at ≤ length output → length now ≡ length output
+mended-long {k} {at} {w} {vs} {ys} {output} {now} m l =
+    omega (arith, ap length (m .bytes), length-append (mended-front k w vs ys) (drop at output), m .long, length-drop at output)
+
+module _ (k at w c : ℕ) (vs ys output so-far now : List ℕ) (m : Mended-to k at w vs ys output so-far) (h : k < 254) where
+  pub mended-more :
+      at + w ≤ length vs → 8 * k + w ≤ length ys → at + w ≤ length output → c ≡ power 2 (120 + k * 120) → Bytes vs →
+      Filled (length (take (at + w - at) (drop at so-far))) (length (take (at + w - at) (drop at so-far)))
+      (λ p. plus (getD (take (at + w - at) (drop at vs)) p 0) (times c (getD (take (8 * k + w - 8 * k) (drop (8 * k) ys)) p 0))) now →
+      Mended-to (k + 1) (at + w) w vs ys output (take at so-far ++ (now ++ drop (at + w - at) (drop at so-far)))
+  mended-more a b d e byte f = record { place = here; long = next-long; bytes = joined }
+    where
+      value : List ℕ
+      value = take w (drop at vs)
+
+      errors : List ℕ
+      errors = take w (drop (8 * k) ys)
+
+      front : List ℕ
+      front = mended-front k w vs ys
+
+      here : at + w ≡ (k + 1) * w
+      here = omega (arith, add-mul k 1 w, m .place)
+
+      plain : at + w - at ≡ w
+      plain = omega arith
+
+      rest : drop at so-far ≡ drop at output
+      rest = ap (drop at) (m .bytes) ∙ drop-at front (drop at output) at (m .long)
+
+      value-long : length value ≡ w
+      value-long = length-take-le w (drop at vs) (omega (arith, length-drop at vs))
+
+      errors-long : length errors ≡ w
+      errors-long = length-take-le w (drop (8 * k) ys) (omega (arith, length-drop (8 * k) ys))
+
+      part-long : length (take (at + w - at) (drop at so-far)) ≡ w
+      part-long = rw (plain, rest) (length-take-le w (drop at output) (omega (arith, length-drop at output)))
+
+      written : now ≡ added value (scaled c errors)
+      written =
+          value-added c w value errors now (rw e (power-lt 2 _)) (bytes-take w (drop at vs) (bytes-drop at vs byte)) value-long errors-long
+          (record {
+            long = f .long ∙ part-long;
+            new = λ p l.
+                f .new p (rw part-long l)
+                ∙ ap₂ (λ (i j : ℕ). plus (getD (take i (drop at vs)) p 0) (times c (getD (take j (drop (8 * k) ys)) p 0))) plain
+                (let q : 8 * k + w - 8 * k ≡ w = omega arith in q);
+          })
+
+      next : mended-front (k + 1) w vs ys ≡ front ++ now
+      next =
+          ap (λ (i : ℕ). mended-front i w vs ys) (add-one k) ∙ mended-front-more k w vs ys
+          ∙ ap (λ (us : List ℕ). front ++ us)
+          (ap₂ (λ (i d : ℕ). added (take w (drop i vs)) (scaled d errors)) (sym (m .place)) (sym (e ∙ weight-inverse k h)) ∙ sym written)
+
+      next-long : length (mended-front (k + 1) w vs ys) ≡ at + w
+      next-long = ap length next ∙ length-append front now ∙ ap₂ _+_ (m .long) (f .long ∙ part-long)
+
+      joined : take at so-far ++ (now ++ drop (at + w - at) (drop at so-far)) ≡ mended-front (k + 1) w vs ys ++ drop (at + w) output
+      joined =
+          ap₂ (λ (us bs : List ℕ). us ++ (now ++ bs)) (ap (take at) (m .bytes) ∙ take-at front (drop at output) at (m .long))
+          (ap₂ drop plain rest ∙ drop-drop w at output)
+          ∙ sym (append-assoc front now (drop (at + w) output)) ∙ ap (λ (us : List ℕ). us ++ drop (at + w) output) (sym next)
+
+pub column-room : (k at n w : ℕ) → k < n → at ≡ k * w → at + w ≤ n * w
+column-room k at n w h e = omega (arith, mul-le-mul-right w (let l : k + 1 ≤ n = omega arith in l), add-mul k 1 w)
+
+pub mended-whole :
+    (n at k w : ℕ) (vs ys output now : List ℕ) → k ≡ n → Mended-to k at w vs ys output now →
+    now ≡ in-front (glued (plus-values (cut n w vs) (column-errors n 0 w ys))) output
+unfolding mended-front in-front
+mended-whole n at k w vs ys output now e m =
+    m .bytes ∙ ap (λ (i : ℕ). mended-front k w vs ys ++ drop i output) (sym (m .long)) ∙ ap (λ (i : ℕ). in-front (mended-front i w vs ys) output) e

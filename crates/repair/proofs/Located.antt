@@ -1,0 +1,113 @@
+-- From rows to the definitions of a plane's decoder. The values of the locators in rows are what the search asks of them, a plane
+-- written by the search is the weighted errors that the locator tells, and the errors of the columns as values are in each plane
+-- the bytes of those weighted errors. Assumes nothing.
+use mathlib.Core.Path.{_≡_, sym, _∙_, ap, ap₂}
+use mathlib.Core.Bool.{true}
+use mathlib.Core.List.{List}
+use Prim.Native.Nat.{ℕ, zero, suc, _+_, _*_, _-_, _<_, _≤_}
+use native.Mathlib.Omega.{arith}
+use lib.ListN.{length, getD, take, drop, length-drop}
+use lib.Seq.{getD-take, getD-drop, length-take-le, ext-getD}
+use Rattle.field.specs.Field.{times, power, inverse}
+use Rattle.field.proofs.Power.{power-zero, power-suc, power-lt}
+use Rattle.field.proofs.Logarithm.{times-comm, times-one}
+use Rattle.field.proofs.Division.{inverse-lt}
+use Rattle.code.specs.Settings.{Settings, check-count, value-size}
+use Rattle.code.specs.Polynomial.{eval}
+use Rattle.code.specs.Lanes.{lane}
+use Rattle.code.specs.Vector.{plane, is-vector}
+use Rattle.code.proofs.Polynomial.{eval-ext, getD-scaled, length-scaled, bytes-scaled}
+use Rattle.code.proofs.Vector.{Values, vector-back, plane-length}
+use Rattle.repair.specs.Locator.{massey, value}
+use Rattle.repair.specs.Errors.{error-byte, Located, Error-bytes}
+use Rattle.repair.specs.Search.{place-exponent, Place-powers, Evaluated, Lane-written, column-errors}
+use Rattle.code.proofs.Lane.{lane-length, lane-at}
+use Rattle.repair.proofs.Places.{exponent-column}
+use Rattle.repair.proofs.PlacePowers.{place-exponent-settings}
+use Rattle.repair.proofs.ColumnErrors.{column-errors-length}
+
+-- the places themselves are their first powers
+pub places-at :
+    (n checks : ℕ) (places : List ℕ) → Place-powers 1 n checks places → (j : ℕ) → j < n + checks →
+    getD (take (n + checks) places) j 0 ≡ power 2 (place-exponent n checks j)
+places-at n checks places q j h =
+    getD-take (n + checks) places j 0 h ∙ q .at j h ∙ power-suc (power 2 (place-exponent n checks j)) 0
+    ∙ ap (times (power 2 (place-exponent n checks j))) (power-zero (power 2 (place-exponent n checks j)))
+    ∙ times-one (power 2 (place-exponent n checks j)) (power-lt 2 _)
+
+-- what the search of a plane asks of the values in rows
+pub locator-values :
+    (p many n checks : ℕ) (coefficients rows locator places : List ℕ) → p < 8 → Place-powers 1 n checks places →
+    Evaluated many n checks coefficients rows → ((i : ℕ) → getD (lane p many coefficients) i 0 ≡ getD locator i 0) →
+    (j : ℕ) → j < n + checks → getD rows (8 * j + p) 0 ≡ eval locator (getD (take (n + checks) places) j 0)
+locator-values p many n checks coefficients rows locator places h q e same j l =
+    e .at j p l h ∙ eval-ext (lane p many coefficients) locator (power 2 (place-exponent n checks j)) (power-lt 2 _) same
+    ∙ ap (eval locator) (sym (places-at n checks places q j l))
+
+-- a plane that is written, and the planes that are kept
+pub lane-located :
+    (s : Settings) (p : ℕ) (S : ℕ → ℕ) (places rows now : List ℕ) → Place-powers 1 (s .n) (check-count s) places →
+    Lane-written p (s .n + check-count s)
+    (λ j. value S (massey S (check-count s) .locator) (getD (take (s .n + check-count s) places) j 0)) rows now →
+    Located s S (lane p (s .n + check-count s) now)
+lane-located s p S places rows now q w =
+    record {
+      many = lane-length p (s .n + check-count s) now;
+      each = λ j h.
+          lane-at p (s .n + check-count s) now j h ∙ w .new j h
+          ∙ ap (value S (massey S (check-count s) .locator))
+          (places-at (s .n) (check-count s) places q j h ∙ ap (power 2) (sym (place-exponent-settings s j)));
+    }
+
+pub lane-kept :
+    (p q many rows-many : ℕ) (f : ℕ → ℕ) (rows now : List ℕ) → p < 8 → q < 8 → (q ≡ p → ⊥) → Lane-written p many f rows now →
+    lane q rows-many now ≡ lane q rows-many rows
+lane-kept p q many k f rows now h l d w =
+    ext-getD 0 (lane q k now) (lane q k rows) (lane-length q k now ∙ sym (lane-length q k rows))
+    (λ j g.
+    let inside : j < k = omega (arith, lane-length q k now) in
+    lane-at q k now j inside ∙ w .rest (8 * j + q) (λ i m e. d (omega arith)) ∙ sym (lane-at q k rows j inside))
+
+-- the errors of the columns: a vector, and its planes
+column-errors-values : (n k w : ℕ) (ys : List ℕ) → w ≤ 8 → 8 * n ≤ length ys → Values w (column-errors n k w ys)
+unfolding column-errors
+column-errors-values zero k w ys h l = tt
+column-errors-values (suc n) k w ys h l = (
+  length-scaled _ (take w ys) ∙ length-take-le w ys (omega arith),
+  bytes-scaled _ (take w ys),
+  column-errors-values n (suc k) w (drop 8 ys) h (omega (arith, length-drop 8 ys)),
+)
+
+pub column-errors-vector :
+    (s : Settings) (ys : List ℕ) → value-size s ≤ 8 → 8 * s .n ≤ length ys → is-vector s (column-errors (s .n) 0 (value-size s) ys) ≡ true
+column-errors-vector s ys h l =
+    vector-back s (column-errors (s .n) 0 (value-size s) ys)
+    (record { many = column-errors-length (s .n) 0 (value-size s) ys; values = column-errors-values (s .n) 0 (value-size s) ys h l })
+
+column-errors-at :
+    (n k w : ℕ) (ys : List ℕ) (p j : ℕ) → p < w → j < n →
+    getD (plane p (column-errors n k w ys)) j 0 ≡ times (inverse (power 2 (120 * (254 - (k + j))))) (getD ys (8 * j + p) 0)
+unfolding column-errors plane
+column-errors-at zero k w ys p j h l = absurd (omega arith)
+column-errors-at (suc n) k w ys p zero h l =
+    getD-scaled (inverse (power 2 (120 * (254 - k)))) (take w ys) p (inverse-lt _)
+    ∙ ap₂ (λ (i b : ℕ). times (inverse (power 2 (120 * (254 - i)))) b) (let e : k ≡ k + 0 = omega arith in e)
+    (getD-take w ys p 0 h ∙ ap (λ (i : ℕ). getD ys i 0) (let e : p ≡ 8 * 0 + p = omega arith in e))
+column-errors-at (suc n) k w ys p (suc j) h l =
+    column-errors-at n (suc k) w (drop 8 ys) p j h (omega arith)
+    ∙ ap₂ (λ (i b : ℕ). times (inverse (power 2 (120 * (254 - i)))) b) (let e : suc k + j ≡ k + suc j = omega arith in e)
+    (getD-drop 8 ys (8 * j + p) 0 ∙ ap (λ (i : ℕ). getD ys i 0) (let e : 8 + (8 * j + p) ≡ 8 * suc j + p = omega arith in e))
+
+pub column-errors-plane :
+    (s : Settings) (p many : ℕ) (ys : List ℕ) → p < value-size s → s .n ≤ many → ((i : ℕ) → getD ys i 0 < 256) →
+    Error-bytes s (lane p many ys) (plane p (column-errors (s .n) 0 (value-size s) ys))
+unfolding error-byte
+column-errors-plane s p many ys h l byte =
+    record {
+      many = plane-length p (column-errors (s .n) 0 (value-size s) ys) ∙ column-errors-length (s .n) 0 (value-size s) ys;
+      each = λ j g.
+          column-errors-at (s .n) 0 (value-size s) ys p j h g
+          ∙ times-comm (inverse (power 2 (120 * (254 - (0 + j))))) (getD ys (8 * j + p) 0) (inverse-lt _) (byte _)
+          ∙ ap₂ (λ (y i : ℕ). times y (inverse (power 2 (120 * i)))) (sym (lane-at p many ys j (omega arith)))
+          ((let e : 254 - (0 + j) ≡ 254 - j = omega arith in e) ∙ sym (exponent-column s j g));
+    }

@@ -1,0 +1,50 @@
+-- A row's terms: with a progression of powers of 2 as constants its products are the terms, and a row of zeros has none.
+-- Assumes nothing.
+use mathlib.Core.Path.{_≡_, refl, sym, _∙_, ap}
+use mathlib.Core.List.{List, _++_}
+use Prim.Native.Nat.{ℕ, _+_, _*_, _-_, _≤_, _<_}
+use native.Mathlib.Omega.{arith}
+use lib.ListN.{length, getD, take, drop, length-drop}
+use lib.Seq.{length-take-le, length-front, take-at, getD-take, getD-drop}
+use Rattle.field.specs.Field.{plus, times, power}
+use Rattle.field.proofs.Xor.{plus-zero}
+use Rattle.field.proofs.Times.{zero-times}
+use Rattle.code.specs.Array.{Filled}
+use Rattle.code.specs.Lanes.{Products-added}
+use Rattle.repair.specs.Rows.{Terms-added}
+
+-- row j, lent as a part of the rows
+module _ (rows : List ℕ) (j : ℕ) where
+  pub row-length : 8 * j + 8 ≤ length rows → length (take (8 * j + 8 - 8 * j) (drop (8 * j) rows)) ≡ 8
+  row-length h = length-take-le (8 * j + 8 - 8 * j) (drop (8 * j) rows) (omega (arith, length-drop (8 * j) rows)) ∙ omega arith
+
+  pub row-at : (p : ℕ) → p < 8 → getD (take (8 * j + 8 - 8 * j) (drop (8 * j) rows)) p 0 ≡ getD rows (8 * j + p) 0
+  row-at p h = getD-take (8 * j + 8 - 8 * j) (drop (8 * j) rows) p 0 (omega arith) ∙ getD-drop (8 * j) rows p 0
+
+-- the constants: the first bytes of an array, written as one slice and read as one
+module _ (k : ℕ) (f : ℕ → ℕ) (old new : List ℕ) (h : k ≤ length old) (w : Filled (length (take k old)) (length (take k old)) f new) where
+  pub front-room : k ≤ length (new ++ drop k old)
+  front-room = omega (arith, length-front old new k (w .long))
+
+  pub filled-front : Filled k k f (take k (new ++ drop k old))
+  filled-front =
+      let long : length new ≡ k = w .long ∙ length-take-le k old h in
+      rw (take-at new (drop k old) k long) (record { long = long; new = λ p l. w .new p (rw (length-take-le k old h) l) })
+
+pub terms-of-zeros :
+    (many start step : ℕ) (row sums : List ℕ) → ((i : ℕ) → getD sums i 0 < 256) → ((p : ℕ) → p < 8 → getD row p 0 ≡ 0) → Terms-added many start step row sums sums
+terms-of-zeros many start step row sums byte z =
+    record {
+      long = refl;
+      terms = λ i p h l.
+          sym (ap (plus (getD sums (8 * i + p) 0)) (ap (λ (b : ℕ). times b (power 2 (start + i * step))) (z p l) ∙ zero-times _) ∙ plus-zero _ (byte (8 * i + p)));
+    }
+
+pub terms-of-products :
+    (many start step : ℕ) (row constants sums now : List ℕ) → Filled many many (λ i. power 2 (start + i * step)) constants →
+    Products-added (length constants) row constants sums now → Terms-added many start step row sums now
+terms-of-products many start step row constants sums now f a =
+    record {
+      long = a .long;
+      terms = λ i p h l. a .sums i p (omega (arith, f .long)) l ∙ ap (λ (b : ℕ). plus (getD sums (8 * i + p) 0) (times (getD row p 0) b)) (f .new i h);
+    }

@@ -1,0 +1,59 @@
+-- What the functions over rows of eight byte planes leave and answer; row j's byte of plane p stands at 8j + p.
+-- Assumes nothing: these are definitions.
+use mathlib.Core.Path.{_≡_}
+use mathlib.Core.Bool.{Bool, true, false}
+use mathlib.Core.List.{List}
+use Prim.Native.Nat.{ℕ, _+_, _*_, _-_, _≤_, _<_}
+use lib.ListN.{length, getD}
+use Rattle.field.specs.Field.{plus, times, power}
+use Rattle.code.specs.Settings.{Settings, check-count}
+use Rattle.code.specs.Polynomial.{root}
+use Rattle.code.specs.Plane.{summed}
+use Rattle.code.specs.Lanes.{lane}
+use Rattle.repair.specs.Errors.{error-sum}
+
+-- a number that is 0 only where the first bytes all are, and where it is not 0, a byte that is not
+pub record Any (many any : ℕ) (bytes : List ℕ) : Type 0 where
+  pub none : any ≡ 0 → (k : ℕ) → k < many → getD bytes k 0 ≡ 0
+  pub some : (any ≡ 0 → ⊥) → (k : ℕ) × (getD bytes k 0 ≡ 0 → ⊥)
+
+-- whether every byte is 0, and where not, a byte that is not
+unfoldable pub Zeros-as : (answer : Bool) → (bytes : List ℕ) → Type 0
+Zeros-as true bs = (i : ℕ) → getD bs i 0 ≡ 0
+Zeros-as false bs = (i : ℕ) × (getD bs i 0 ≡ 0 → ⊥)
+
+-- two lists of values of so many bytes added into rows, as many as the first number says; every other byte is 0
+pub record Values-added (many size : ℕ) (own checks rows : List ℕ) : Type 0 where
+  pub long : length rows ≡ 160
+  pub sums :
+      (c p : ℕ) → c < many → p < size → getD rows (8 * c + p) 0 ≡ plus (getD own (c * size + p) 0) (getD checks (c * size + p) 0)
+  pub spare : (c p : ℕ) → size ≤ p → p < 8 → getD rows (8 * c + p) 0 ≡ 0
+  pub beyond : (i : ℕ) → 8 * many ≤ i → getD rows i 0 ≡ 0
+
+-- to each of the first rows i of each plane its byte of a row times 2^(start + i·step) is added
+pub record Terms-added (many start step : ℕ) (row sums sums-now : List ℕ) : Type 0 where
+  pub long : length sums-now ≡ length sums
+  pub terms :
+      (i p : ℕ) → i < many → p < 8 →
+      getD sums-now (8 * i + p) 0 ≡ plus (getD sums (8 * i + p) 0) (times (getD row p 0) (power 2 (start + i * step)))
+
+-- row i is at each plane the sum at root i of the first rows of checks, of which there are `count`
+pub record Check-sums (many count : ℕ) (checks sums : List ℕ) : Type 0 where
+  pub long : length sums ≡ 160
+  pub each : (i p : ℕ) → i < count → p < 8 → getD sums (8 * i + p) 0 ≡ summed (root i) (count - 1) (lane p many checks)
+
+-- row i is at each plane the power sum i of the weighted errors in the first rows, for any settings of n columns and `count` checks
+pub record Error-sums (many n count : ℕ) (weighted sums : List ℕ) : Type 0 where
+  pub long : length sums ≡ 160
+  pub each :
+      (s : Settings) → s .n ≡ n → check-count s ≡ count → (i p : ℕ) → i < count → p < 8 →
+      getD sums (8 * i + p) 0 ≡ error-sum s i 0 (lane p many weighted)
+
+-- what the weighted errors of plane p leave of its sum i
+abbrev pub residue : Settings → (i p : ℕ) → (sums weighted : List ℕ) → ℕ
+residue s i p S ys = plus (getD S (8 * i + p) 0) (error-sum s i 0 (lane p (s .n + check-count s) ys))
+
+-- whether they leave nothing of any sum of any plane, and where not, a sum of which they do
+unfoldable pub Explained-as : (answer : Bool) → Settings → (sums weighted : List ℕ) → Type 0
+Explained-as true s S ys = (i p : ℕ) → i < check-count s → p < 8 → residue s i p S ys ≡ 0
+Explained-as false s S ys = (i p : ℕ) × (i < check-count s) × (p < 8) × (residue s i p S ys ≡ 0 → ⊥)

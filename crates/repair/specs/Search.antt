@@ -1,0 +1,38 @@
+-- What stands in rows of eight planes when all places are searched: row j's byte of plane p stands at 8j + p, and row j is that
+-- of place j, first the columns, then the checks. Assumes nothing: these are definitions.
+use mathlib.Core.Path.{_≡_}
+use mathlib.Core.Bool.{cond}
+use mathlib.Core.List.{List, [], _∷_}
+use Prim.Native.Nat.{ℕ, zero, suc, _+_, _*_, _-_, _<_}
+use lib.Dec.{ltb}
+use lib.ListN.{length, getD, take, drop}
+use Rattle.field.specs.Field.{power, inverse}
+use Rattle.code.specs.Polynomial.{eval, scaled}
+use Rattle.code.specs.Lanes.{lane}
+
+-- place j of n columns and so many checks is 2 to this power: `exponent` over plain numbers
+unfoldable pub place-exponent : (n checks j : ℕ) → ℕ
+place-exponent n checks j = cond (ltb j n) (254 - j) (n + checks - suc j)
+
+-- the m-th power of each place
+pub record Place-powers (m n checks : ℕ) (constants : List ℕ) : Type 0 where
+  pub long : length constants ≡ 52
+  pub at : (j : ℕ) → j < n + checks → getD constants j 0 ≡ power (power 2 (place-exponent n checks j)) m
+
+-- in each plane the polynomial of its first coefficients, at each place
+pub record Evaluated (many n checks : ℕ) (coefficients rows : List ℕ) : Type 0 where
+  pub long : length rows ≡ 416
+  pub at :
+      (j p : ℕ) → j < n + checks → p < 8 →
+      getD rows (8 * j + p) 0 ≡ eval (lane p many coefficients) (power 2 (place-exponent n checks j))
+
+-- plane p of the first rows is f, and every other byte is kept
+pub record Lane-written (p many : ℕ) (f : ℕ → ℕ) (rows rows-now : List ℕ) : Type 0 where
+  pub long : length rows-now ≡ length rows
+  pub new : (j : ℕ) → j < many → getD rows-now (8 * j + p) 0 ≡ f j
+  pub rest : (i : ℕ) → ((j : ℕ) → j < many → i ≡ 8 * j + p → ⊥) → getD rows-now i 0 ≡ getD rows i 0
+
+-- the errors of so many columns from column k on, as values of so many bytes: a weight is divided out
+unfoldable pub column-errors : (columns k size : ℕ) → (weighted : List ℕ) → List (List ℕ)
+column-errors zero k w ys = []
+column-errors (suc n) k w ys = scaled (inverse (power 2 (120 * (254 - k)))) (take w ys) ∷ column-errors n (suc k) w (drop 8 ys)
