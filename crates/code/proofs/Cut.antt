@@ -23,6 +23,9 @@ value-fits j n w h = omega (arith, suc-mul j w, mul-le-mul-right w h)
 pub values-fit : (n w : ℕ) → n ≤ 32 → w ≤ 8 → n * w ≤ 256
 values-fit n w h l = mul-le-mul h l
 
+pub check-room : (t w : ℕ) → t ≤ 10 → w ≤ 8 → 2 * t * w ≤ 160
+check-room t w h l = mul-le-mul (let e : 2 * t ≤ 20 = omega arith in e) l
+
 -- values
 pub cut-length : (n w : ℕ) (bs : List ℕ) → length (cut n w bs) ≡ n
 unfolding cut

@@ -52,3 +52,13 @@ module _ (n t w : ℕ) (vector out : List ℕ) where
     where
       number : _≡_ {A = ℕ} (cond (not (eqb (length vector) (n * w)) || ltb (length out) (2 * t * w)) 18 0) 0
       number = rw (eq-eqb (length vector) (n * w) l, le-ltb (length out) (2 * t * w) h)
+
+  -- what a caller with right settings and lengths learns
+  pub checks-given :
+      (answer : ℕ) (now : List ℕ) → settings-refusal (settings n t w) ≡ 0 → length vector ≡ n * w → 2 * t * w ≤ length out →
+      Checks-says n t w vector answer out now → Checks-put (settings n t w) vector out now
+  unfolding Checks-says Checks-as
+  checks-given answer now e l h d = subst (λ (j : ℕ). Checks-as j (settings n t w) vector answer out now) (checks-number e ∙ number) d .1
+    where
+      number : _≡_ {A = ℕ} (cond (not (eqb (length vector) (n * w)) || ltb (length out) (2 * t * w)) 18 0) 0
+      number = rw (eq-eqb (length vector) (n * w) l, le-ltb (length out) (2 * t * w) h)

@@ -1,6 +1,6 @@
 // The Reed-Solomon code over byte planes: check values.
 pub mod lanes;
-mod planes;
+pub mod planes;
 mod register;
 mod roots;
 pub mod settings;

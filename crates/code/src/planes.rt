@@ -5,7 +5,7 @@ ghost use lib.ListN.{length, getD};
 ghost use Rattle.code.specs.Array.{Written};
 ghost use Rattle.code.specs.Lanes.{Loaded, Stored};
 
-fn copy_value(to: &mut [u8], at: usize, from: &[u8], start: usize, size: usize)
+pub fn copy_value(to: &mut [u8], at: usize, from: &[u8], start: usize, size: usize)
     requires { ⌜ (at + size ≤ length (now to)) × (start + size ≤ length (now from)) ⌝ }
     ensures { λ _. ⌜ Written at size (λ p. getD (now (from .entry)) (start + p) 0) (now (to .entry)) (now (to .exit)) ⌝ }
 {

@@ -20,7 +20,8 @@ use Rattle.column.proofs.Step.{after-take-round, leads-closing}
 use Rattle.column.proofs.Walk.{passes-run, passes-join}
 use Rattle.column.proofs.Handed.{Group}
 use Rattle.column.proofs.Gradecast.{gradecast}
-use Rattle.column.proofs.Quick.{checks-quick, table-tested}
+use Rattle.code.proofs.Quick.{checks-quick}
+use Rattle.column.proofs.Quick.{table-tested}
 use Rattle.column.proofs.Listing.{four, operand, sent, heard, agreed, results, table-two, table-three, first-other, second-other, calls-from, calls, under, column, with-frames, after, full, Outcome, by-round, computed, expected, outcomes}
 
 -- rounds

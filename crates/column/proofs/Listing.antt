@@ -20,7 +20,8 @@ use Rattle.column.specs.Record.{Rec, Held, held-as, no-frames, opened, t
 use Rattle.column.specs.Refusal.{first-of, number-refusal, size-refusal, blank-refusal, round-refusal, slot-refusal, frame-refusal, open-refusal, record-refusal, take-refusal, close-refusal, counts-up}
 use Rattle.column.specs.Exchange.{entries, value-or-blank, heard-at, heard-vector, found, better, most-from, most, agreed-at, agreed-vector, held-of, held-at, held-list}
 use Rattle.column.specs.Call.{Call, taking, sending, closing, asking, after-take}
-use Rattle.column.proofs.Quick.{quick-summed, quick-zero-from, quick-word, quick-planes-from, quick-checks, row-test, rows-test}
+use Rattle.code.proofs.Quick.{quick-summed, quick-zero-from, quick-word, quick-planes-from, quick-checks}
+use Rattle.column.proofs.Quick.{row-test, rows-test}
 
 -- n = 4, t = 1, w = 1
 abbrev pub four : Settings

@@ -7,8 +7,7 @@ use Prim.Native.Nat.{ℕ, zero, suc, _+_, _*_, _≤_, _<_}
 use native.Mathlib.Omega.{arith}
 use native.Mathlib.Nat.{suc-mul, mul-le-mul-right}
 use native.Mathlib.Decide.{decLt}
-use lib.ListN.{length, getD, drop, replicate}
-use lib.Seq.{getD-take, getD-drop}
+use lib.ListN.{length, getD, replicate}
 use Rattle.field.specs.Field.{plus}
 use Rattle.code.specs.Array.{Written}
 use Rattle.code.specs.Polynomial.{added}
@@ -16,7 +15,6 @@ use Rattle.code.specs.Vector.{plane, cut}
 use Rattle.code.specs.Lanes.{lane}
 use Rattle.code.proofs.Written.{all-zero, zero-at}
 use Rattle.code.proofs.Polynomial.{length-added}
-use Rattle.code.proofs.Vector.{plane-length}
 use Rattle.repair.specs.Rows.{Values-added}
 use Rattle.code.proofs.Cut.{plane-cut, plane-cut-length}
 use Rattle.code.proofs.Lane.{lane-is, lane-zeros}

@@ -12,17 +12,13 @@ use Rattle.field.specs.Field.{plus, times, power}
 use Rattle.field.proofs.Xor.{plus-assoc, plus-lt, plus-zero, zero-plus}
 use Rattle.field.proofs.Times.{times-lt, zero-times}
 use Rattle.field.proofs.Power.{power-add, power-mul, power-mod}
-use Rattle.code.specs.Settings.{Settings, check-count, value-size}
+use Rattle.code.specs.Settings.{Settings, check-count}
 use Rattle.code.specs.Polynomial.{root}
 use Rattle.code.specs.Plane.{summed, syndrome}
-use Rattle.code.specs.Vector.{plane, cut, is-vector, are-checks, has-checks}
 use Rattle.code.specs.Lanes.{lane}
 use Rattle.code.proofs.Written.{all-zero, zero-at}
-use Rattle.repair.specs.Difference.{plus-values}
-use Rattle.repair.specs.Rows.{Values-added, Terms-added, Check-sums}
-use Rattle.repair.proofs.OwnVector.{difference}
+use Rattle.repair.specs.Rows.{Terms-added, Check-sums}
 use Rattle.code.proofs.Lane.{lane-length, lane-more}
-use Rattle.repair.proofs.CheckRows.{values-lane}
 
 -- bytes times falling powers: one more byte at the end, and zero bytes
 summed-lt : (x k : ℕ) (us : List ℕ) → summed x k us < 256
@@ -85,15 +81,3 @@ pub check-sums-spare :
     (count : ℕ) (checks sums : List ℕ) → Check-sums count count checks sums → (i p : ℕ) → i < count → p < 8 → lane p count checks ≡ replicate count 0 →
     getD sums (8 * i + p) 0 ≡ 0
 check-sums-spare count checks sums c i p h l e = c .each i p h l ∙ ap (summed (root i) (count - 1)) e ∙ summed-zeros (root i) (count - 1) count
-
--- the difference of the own check values and those received, both as bytes: its sums are the syndromes of a plane of it
-module _ (s : Settings) (vs : List (List ℕ)) (own checks rows sums : List ℕ) (e : is-vector s vs ≡ true) (f : has-checks s vs (cut (check-count s) (value-size s) own) ≡ true) (g : are-checks s (cut (check-count s) (value-size s) checks) ≡ true) (v : Values-added (check-count s) (value-size s) own checks rows) (c : Check-sums (check-count s) (check-count s) rows sums) where
-  pub difference-syndromes :
-      (p : ℕ) → p < value-size s → p < 8 → (i : ℕ) → i < check-count s →
-      getD sums (8 * i + p) 0
-      ≡ syndrome s i (replicate (s .n) 0) (plane p (plus-values (cut (check-count s) (value-size s) own) (cut (check-count s) (value-size s) checks)))
-  difference-syndromes p h l i k =
-      check-sums-syndrome s (s .n) (check-count s) rows sums refl c i p k l
-      ∙ ap (syndrome s i (replicate (s .n) 0))
-      (values-lane (check-count s) (value-size s) own checks rows v p h
-      ∙ sym (difference s vs (cut (check-count s) (value-size s) own) (cut (check-count s) (value-size s) checks) e f g p))

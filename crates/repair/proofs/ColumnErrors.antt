@@ -5,7 +5,7 @@ use mathlib.Core.Path.{_≡_, refl, sym, _∙_, ap, ap₂}
 use mathlib.Core.List.{List, [], _∷_, _++_, append-assoc, append-nil}
 use Prim.Native.Nat.{ℕ, zero, suc, _+_, _*_, _-_, _<_, _≤_}
 use native.Mathlib.Omega.{arith}
-use native.Mathlib.Nat.{add-mul, mul-le-mul-right}
+use native.Mathlib.Nat.{suc-mul}
 use native.Mathlib.Numerals.{add-one}
 use lib.ListN.{length, getD, take, drop, length-append, length-drop}
 use lib.Seq.{length-take-le, take-at, drop-at, drop-drop, ext-getD}
@@ -15,24 +15,22 @@ use Rattle.code.specs.Array.{Filled}
 use Rattle.code.specs.Polynomial.{added, scaled}
 use Rattle.code.specs.Vector.{cut, glued}
 use Rattle.code.specs.Entry.{in-front}
-use Rattle.code.proofs.Bytes.{Bytes, bytes-take}
+use Rattle.code.proofs.Bytes.{Bytes, bytes-take, bytes-drop}
 use Rattle.code.proofs.Polynomial.{getD-added, getD-scaled, length-added, length-scaled, bytes-scaled}
-use Rattle.code.proofs.Cut.{cut-length}
+use Rattle.code.proofs.Cut.{next-value, cut-length}
 use Rattle.repair.specs.Difference.{plus-values}
 use Rattle.repair.specs.Search.{column-errors}
+use Rattle.repair.proofs.PlaceRows.{part-long}
 use Rattle.repair.proofs.PlacePowers.{weight-inverse}
 
 -- one more value
-next-product : (k w : ℕ) → w + k * w ≡ suc k * w
-next-product k w = omega (arith, add-mul k 1 w)
-
 cut-more : (k w : ℕ) (bs : List ℕ) → cut (suc k) w bs ≡ cut k w bs ++ (take w (drop (k * w) bs) ∷ [])
 unfolding cut
 cut-more zero w bs = ap (λ (i : ℕ). take w (drop i bs) ∷ []) (let e : 0 ≡ 0 * w = omega arith in e)
 cut-more (suc k) w bs =
     ap (_∷_ (take w bs))
     (cut-more k w (drop w bs)
-    ∙ ap (λ (us : List ℕ). cut k w (drop w bs) ++ (take w us ∷ [])) (drop-drop (k * w) w bs ∙ ap (λ (i : ℕ). drop i bs) (next-product k w)))
+    ∙ ap (λ (us : List ℕ). cut k w (drop w bs) ++ (take w us ∷ [])) (drop-drop (k * w) w bs ∙ ap (λ (i : ℕ). drop i bs) (let e : w + k * w ≡ suc k * w = omega (arith, suc-mul k w) in e)))
 
 column-errors-more :
     (n k w : ℕ) (ys : List ℕ) →
@@ -84,11 +82,6 @@ mended-front-more k w vs ys =
     ∙ glued-more (plus-values (cut k w vs) (column-errors k 0 w ys)) _
 
 -- a value with its errors, as written byte by byte
-bytes-drop : (n : ℕ) (us : List ℕ) → Bytes us → Bytes (drop n us)
-bytes-drop zero us b = b
-bytes-drop (suc n) [] b = tt
-bytes-drop (suc n) (u ∷ us) b = bytes-drop n us (b .1)
-
 value-added :
     (c w : ℕ) (vs es now : List ℕ) → c < 256 → Bytes vs → length vs ≡ w → length es ≡ w →
     Filled w w (λ p. plus (getD vs p 0) (times c (getD es p 0))) now → now ≡ added vs (scaled c es)
@@ -107,9 +100,6 @@ pub record Mended-to (k at size : ℕ) (vector weighted output output-now : List
 pub mended-none : (size : ℕ) (vs ys output : List ℕ) → Mended-to 0 0 size vs ys output output
 unfolding mended-front glued plus-values cut column-errors
 mended-none size vs ys output = record { place = omega arith; long = refl; bytes = refl }
-
-pub part-long : (at w : ℕ) (bs : List ℕ) → at + w ≤ length bs → length (take (at + w - at) (drop at bs)) ≡ w
-part-long at w bs h = length-take-le (at + w - at) (drop at bs) (omega (arith, length-drop at bs)) ∙ omega arith
 
 pub mended-long :
     {k at w : ℕ} {vs ys output now : List ℕ} → Mended-to k at w vs ys output now → at ≤ length output → length now ≡ length output
@@ -134,7 +124,7 @@ module _ (k at w c : ℕ) (vs ys output so-far now : List ℕ) (m : Mended-to k 
       front = mended-front k w vs ys
 
       here : at + w ≡ (k + 1) * w
-      here = omega (arith, add-mul k 1 w, m .place)
+      here = omega (arith, next-value k w, m .place)
 
       plain : at + w - at ≡ w
       plain = omega arith
@@ -148,16 +138,16 @@ module _ (k at w c : ℕ) (vs ys output so-far now : List ℕ) (m : Mended-to k 
       errors-long : length errors ≡ w
       errors-long = length-take-le w (drop (8 * k) ys) (omega (arith, length-drop (8 * k) ys))
 
-      part-long : length (take (at + w - at) (drop at so-far)) ≡ w
-      part-long = rw (plain, rest) (length-take-le w (drop at output) (omega (arith, length-drop at output)))
+      own-long : length (take (at + w - at) (drop at so-far)) ≡ w
+      own-long = part-long at w so-far (omega (arith, mended-long m (omega arith)))
 
       written : now ≡ added value (scaled c errors)
       written =
           value-added c w value errors now (rw e (power-lt 2 _)) (bytes-take w (drop at vs) (bytes-drop at vs byte)) value-long errors-long
           (record {
-            long = f .long ∙ part-long;
+            long = f .long ∙ own-long;
             new = λ p l.
-                f .new p (rw part-long l)
+                f .new p (rw own-long l)
                 ∙ ap₂ (λ (i j : ℕ). plus (getD (take i (drop at vs)) p 0) (times c (getD (take j (drop (8 * k) ys)) p 0))) plain
                 (let q : 8 * k + w - 8 * k ≡ w = omega arith in q);
           })
@@ -169,16 +159,13 @@ module _ (k at w c : ℕ) (vs ys output so-far now : List ℕ) (m : Mended-to k 
           (ap₂ (λ (i d : ℕ). added (take w (drop i vs)) (scaled d errors)) (sym (m .place)) (sym (e ∙ weight-inverse k h)) ∙ sym written)
 
       next-long : length (mended-front (k + 1) w vs ys) ≡ at + w
-      next-long = ap length next ∙ length-append front now ∙ ap₂ _+_ (m .long) (f .long ∙ part-long)
+      next-long = ap length next ∙ length-append front now ∙ ap₂ _+_ (m .long) (f .long ∙ own-long)
 
       joined : take at so-far ++ (now ++ drop (at + w - at) (drop at so-far)) ≡ mended-front (k + 1) w vs ys ++ drop (at + w) output
       joined =
           ap₂ (λ (us bs : List ℕ). us ++ (now ++ bs)) (ap (take at) (m .bytes) ∙ take-at front (drop at output) at (m .long))
           (ap₂ drop plain rest ∙ drop-drop w at output)
           ∙ sym (append-assoc front now (drop (at + w) output)) ∙ ap (λ (us : List ℕ). us ++ drop (at + w) output) (sym next)
-
-pub column-room : (k at n w : ℕ) → k < n → at ≡ k * w → at + w ≤ n * w
-column-room k at n w h e = omega (arith, mul-le-mul-right w (let l : k + 1 ≤ n = omega arith in l), add-mul k 1 w)
 
 pub mended-whole :
     (n at k w : ℕ) (vs ys output now : List ℕ) → k ≡ n → Mended-to k at w vs ys output now →

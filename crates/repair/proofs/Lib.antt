@@ -26,3 +26,9 @@ pub mod PlaceRows
 pub mod PlacePowers
 pub mod ColumnErrors
 pub mod Located
+pub mod PlaneLocators
+pub mod PlaneErrors
+pub mod PlaneDecoder
+pub mod Answer
+pub mod Entry
+pub mod OwnChecks

@@ -7,7 +7,7 @@ use mathlib.Core.List.{List}
 use Prim.Native.Nat.{ℕ, zero, suc, _+_, _*_, _-_, _<_, _≤_}
 use native.Mathlib.Omega.{arith}
 use lib.ListN.{length, getD, take, drop, length-drop}
-use lib.Seq.{getD-take, getD-drop, length-take-le, ext-getD}
+use lib.Seq.{getD-take, getD-drop, length-take-le}
 use Rattle.field.specs.Field.{times, power, inverse}
 use Rattle.field.proofs.Power.{power-zero, power-suc, power-lt}
 use Rattle.field.proofs.Logarithm.{times-comm, times-one}
@@ -21,7 +21,7 @@ use Rattle.code.proofs.Vector.{Values, vector-back, plane-length}
 use Rattle.repair.specs.Locator.{massey, value}
 use Rattle.repair.specs.Errors.{error-byte, Located, Error-bytes}
 use Rattle.repair.specs.Search.{place-exponent, Place-powers, Evaluated, Lane-written, column-errors}
-use Rattle.code.proofs.Lane.{lane-length, lane-at}
+use Rattle.code.proofs.Lane.{lane-length, lane-at, lane-is}
 use Rattle.repair.proofs.Places.{exponent-column}
 use Rattle.repair.proofs.PlacePowers.{place-exponent-settings}
 use Rattle.repair.proofs.ColumnErrors.{column-errors-length}
@@ -63,10 +63,7 @@ pub lane-kept :
     (p q many rows-many : ℕ) (f : ℕ → ℕ) (rows now : List ℕ) → p < 8 → q < 8 → (q ≡ p → ⊥) → Lane-written p many f rows now →
     lane q rows-many now ≡ lane q rows-many rows
 lane-kept p q many k f rows now h l d w =
-    ext-getD 0 (lane q k now) (lane q k rows) (lane-length q k now ∙ sym (lane-length q k rows))
-    (λ j g.
-    let inside : j < k = omega (arith, lane-length q k now) in
-    lane-at q k now j inside ∙ w .rest (8 * j + q) (λ i m e. d (omega arith)) ∙ sym (lane-at q k rows j inside))
+    lane-is q k now (lane q k rows) (lane-length q k rows) (λ j g. w .rest (8 * j + q) (λ i m e. d (omega arith)) ∙ sym (lane-at q k rows j g))
 
 -- the errors of the columns: a vector, and its planes
 column-errors-values : (n k w : ℕ) (ys : List ℕ) → w ≤ 8 → 8 * n ≤ length ys → Values w (column-errors n k w ys)

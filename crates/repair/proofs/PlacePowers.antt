@@ -16,6 +16,7 @@ use Rattle.code.specs.Array.{Filled}
 use Rattle.code.specs.Settings.{Settings, check-count}
 use Rattle.repair.specs.Errors.{exponent}
 use Rattle.repair.specs.Search.{place-exponent, Place-powers}
+use Rattle.repair.proofs.PlaceRows.{part-long}
 
 -- exponents
 pub place-exponent-settings : (s : Settings) (j : ℕ) → exponent s j ≡ place-exponent (s .n) (check-count s) j
@@ -72,13 +73,6 @@ check-power n checks m j h l =
 
 -- two progressions written into an array, one after the other
 module _ (m n checks : ℕ) (zeros xs ys : List ℕ) (few : n + checks ≤ 52) (long : length zeros ≡ 52) where
-  filled-front : length xs ≡ length (take n zeros) → length (xs ++ drop n zeros) ≡ 52
-  filled-front e = length-front zeros xs n e ∙ long
-
-  part-long : length xs ≡ length (take n zeros) → length (take (n + checks - n) (drop n (xs ++ drop n zeros))) ≡ checks
-  part-long e =
-      length-take-le (n + checks - n) (drop n (xs ++ drop n zeros)) (omega (arith, length-drop n (xs ++ drop n zeros), filled-front e)) ∙ omega arith
-
   pub place-powers-joined :
       m ≤ 255 → Filled (length (take n zeros)) (length (take n zeros)) (λ j. power 2 (254 * m % 255 + j * ((255 - m) % 255))) xs →
       Filled (length (take (n + checks - n) (drop n (xs ++ drop n zeros)))) (length (take (n + checks - n) (drop n (xs ++ drop n zeros))))
@@ -91,6 +85,12 @@ module _ (m n checks : ℕ) (zeros xs ys : List ℕ) (few : n + checks ≤ 52) (
       first-long : length (take n zeros) ≡ n
       first-long = length-take-le n zeros (omega arith)
 
+      front-long : length (xs ++ drop n zeros) ≡ 52
+      front-long = length-front zeros xs n (columns .long) ∙ long
+
+      second-long : length (take (n + checks - n) (drop n (xs ++ drop n zeros))) ≡ checks
+      second-long = part-long n checks (xs ++ drop n zeros) (omega (arith, front-long))
+
       rest : List ℕ
       rest = drop (n + checks - n) (drop n (xs ++ drop n zeros))
 
@@ -102,8 +102,8 @@ module _ (m n checks : ℕ) (zeros xs ys : List ℕ) (few : n + checks ≤ 52) (
             length-append ys rest,
             length-drop (n + checks - n) (drop n (xs ++ drop n zeros)),
             length-drop n (xs ++ drop n zeros),
-            filled-front (columns .long),
-            part-long (columns .long),
+            front-long,
+            second-long,
             columns .long,
             first-long,
             others .long,
@@ -114,8 +114,8 @@ module _ (m n checks : ℕ) (zeros xs ys : List ℕ) (few : n + checks ≤ 52) (
           List·getD-append xs (ys ++ rest) 0 j (omega (arith, columns .long, first-long)) ∙ columns .new j (rw first-long d) ∙ column-power n checks m j h d (omega arith)
       at j k (no d) =
           ap (λ (i : ℕ). getD (xs ++ (ys ++ rest)) i 0) (let q : j ≡ length xs + (j - n) = omega (arith, columns .long, first-long) in q)
-          ∙ getD-append-add xs (ys ++ rest) (j - n) 0 ∙ List·getD-append ys rest 0 (j - n) (omega (arith, others .long, part-long (columns .long)))
-          ∙ others .new (j - n) (rw (part-long (columns .long)) (omega arith))
+          ∙ getD-append-add xs (ys ++ rest) (j - n) 0 ∙ List·getD-append ys rest 0 (j - n) (omega (arith, others .long, second-long))
+          ∙ others .new (j - n) (rw (second-long) (omega arith))
           ∙ check-power n checks m (j - n) h (omega arith)
           ∙ ap (λ (i : ℕ). power (power 2 (place-exponent n checks i)) m) (let q : n + (j - n) ≡ j = omega arith in q)
 

@@ -1,14 +1,13 @@
--- Rows of eight planes: a plane's bytes by row, and one row more of it. One more row of coefficients adds the next term to the
--- polynomial of every plane at every place, a byte written in a row changes that plane alone, and a plane's wrong places are
--- counted row by row. Assumes nothing.
+-- Rows of eight planes, one more at a time. One more row of coefficients adds the next term to the polynomial of every plane at
+-- every place, a byte written in a row changes that plane alone, and a plane's wrong places are counted row by row. Assumes nothing.
 use mathlib.Core.Path.{_≡_, refl, sym, _∙_, ap, ap₂, subst}
 use mathlib.Core.Bool.{true, cond}
 use mathlib.Core.List.{List, [], _∷_}
-use Prim.Native.Nat.{ℕ, suc, _+_, _*_, _<_, _≤_}
+use Prim.Native.Nat.{ℕ, suc, _+_, _*_, _-_, _<_, _≤_}
 use native.Mathlib.Omega.{arith}
 use native.Mathlib.Numerals.{add-one}
 use lib.Dec.{eqb}
-use lib.ListN.{length, getD, take, set, length-set}
+use lib.ListN.{length, getD, take, drop, set, length-drop, length-set}
 use lib.Seq.{getD-take, length-take-le, getD-set-same, getD-set-other}
 use borrow.Author.Count.{below-more}
 use borrow.Author.Tests.{eq-eqb, ne-eqb}
@@ -24,6 +23,10 @@ use Rattle.repair.specs.Errors.{wrong-places}
 use Rattle.repair.specs.Search.{place-exponent, Place-powers, Evaluated, Lane-written}
 use Rattle.code.proofs.Lane.{lane-length, lane-more}
 use Rattle.repair.proofs.Totals.{wrong-places-append}
+
+-- a part of bytes that is lent
+pub part-long : (at w : ℕ) (bs : List ℕ) → at + w ≤ length bs → length (take (at + w - at) (drop at bs)) ≡ w
+part-long at w bs h = length-take-le (at + w - at) (drop at bs) (omega (arith, length-drop at bs)) ∙ omega arith
 
 -- the polynomials of all planes, one more row of coefficients at a time
 eval-lane-more :

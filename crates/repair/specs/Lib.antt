@@ -4,4 +4,5 @@ pub mod Difference
 pub mod Held
 pub mod Rows
 pub mod Search
+pub mod Planes
 pub mod Entry

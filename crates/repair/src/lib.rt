@@ -1,4 +1,130 @@
 // Repair of a vector by check values: in each byte plane the one codeword within t places, or none.
 mod locator;
+mod planes;
 mod search;
 mod sums;
+
+ghost use mathlib.Core.Path.{_≡_};
+ghost use Prim.Native.Nat.{_*_, _≤_};
+ghost use lib.ListN.{length};
+ghost use Rattle.code.specs.Settings.{settings, settings-refusal};
+ghost use Rattle.code.specs.Entry.{values-in};
+ghost use Rattle.repair.specs.Entry.{repair-refusal, Repair-says, Repair-by-says, Done-by};
+
+// The answer where some plane has no codeword near.
+const NONE: u32 = 256;
+
+// The vector repaired by the check values received, in the first n·w bytes of the output: 0, or 256 for "none", or the refusal
+// 1, 2, 3 or 18.
+#[no_mangle]
+pub extern "C" fn repair(
+    n: u32,
+    t: u32,
+    w: u32,
+    vector: &[u8],
+    checks: &[u8],
+    output: &mut [u8],
+) -> u32
+    ensures { λ r. ⌜ Repair-says n t w (now (vector .entry)) (now (checks .entry)) r (now (output .entry)) (now (output .exit)) ⌝ }
+{
+    let refusal = refused(n, t, w, vector.len(), checks.len(), output.len());
+    if refusal != 0 {
+        return refusal;
+    }
+    let mut own = [0u8; 160];
+    let end = checks.len();
+    code::check_values(n, t, w, vector, &mut own);
+    by_difference(
+        n as usize,
+        t as usize,
+        w as usize,
+        vector,
+        &own[..end],
+        checks,
+        output,
+    )
+}
+
+// The same by the difference to check values worked out before, the vector's own: checks that agree cost a comparison.
+#[no_mangle]
+pub extern "C" fn repair_by(
+    n: u32,
+    t: u32,
+    w: u32,
+    vector: &[u8],
+    own: &[u8],
+    checks: &[u8],
+    output: &mut [u8],
+) -> u32
+    ensures { λ r. ⌜ Repair-by-says n t w (now (vector .entry)) (now (own .entry)) (now (checks .entry)) r (now (output .entry)) (now (output .exit)) ⌝ }
+{
+    let refusal = refused(n, t, w, vector.len(), checks.len(), output.len());
+    if refusal != 0 {
+        return refusal;
+    }
+    if own.len() != checks.len() {
+        return 18;
+    }
+    by_difference(
+        n as usize,
+        t as usize,
+        w as usize,
+        vector,
+        own,
+        checks,
+        output,
+    )
+}
+
+fn refused(n: u32, t: u32, w: u32, vector: usize, checks: usize, room: usize) -> u32
+    ensures { λ r. ⌜ r ≡ repair-refusal (settings n t w) vector checks room ⌝ }
+{
+    let refusal = code::settings::settings_refusal(n, t, w);
+    if refusal != 0 {
+        return refusal;
+    }
+    let columns = n as usize;
+    let bad = t as usize;
+    let size = w as usize;
+    if vector != columns * size {
+        return 18;
+    }
+    if checks != 2 * bad * size {
+        return 18;
+    }
+    if room < columns * size {
+        return 18;
+    }
+    0
+}
+
+fn by_difference(
+    n: usize,
+    t: usize,
+    w: usize,
+    vector: &[u8],
+    own: &[u8],
+    checks: &[u8],
+    output: &mut [u8],
+) -> u32
+    requires { ⌜ settings-refusal (settings n t w) ≡ 0 ⌝ }
+    requires { ⌜ (length (now vector) ≡ n * w) × (length (now own) ≡ 2 * t * w) × (length (now checks) ≡ 2 * t * w) × (n * w ≤ length (now output)) ⌝ }
+    ensures { λ r. ⌜ Done-by (settings n t w) (values-in (settings n t w) n (now (vector .entry))) (values-in (settings n t w) (2 * t) (now (own .entry))) (values-in (settings n t w) (2 * t) (now (checks .entry))) r (now (output .entry)) (now (output .exit)) ⌝ }
+{
+    let count = 2 * t;
+    let difference = sums::difference(own, checks, count, w);
+    if sums::is_zero(&difference) {
+        code::planes::copy_value(output, 0, vector, 0, vector.len());
+        return 0;
+    }
+    let powers = field::powers();
+    let logarithms = field::logarithms();
+    let sums = sums::syndromes(&powers, &difference, count);
+    let errors = planes::decode(&powers, &logarithms, &sums, n, t, w);
+    if !errors.found {
+        return NONE;
+    }
+    let weighted = errors.weighted;
+    search::apply_errors(&powers, &logarithms, vector, &weighted, n, w, output);
+    0
+}

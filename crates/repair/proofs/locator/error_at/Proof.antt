@@ -1,7 +1,7 @@
 -- `locator::error_at` meets its contract: after the coefficients from m on the loop has their value at x, and of their quotient
 -- the value and the sum; at the end the locator's own value says whether x is a root. Assumes nothing.
 use mathlib.Core.Path.{_∙_, ap}
-use Prim.Native.Nat.{ℕ, _-_}
+use Prim.Native.Nat.{ℕ}
 use native.Mathlib.Omega.{arith}
 use Rattle.field.specs.Field.{plus, times}
 use Rattle.repair.proofs.Horner.{entries, Divided, divided-end, divided-turn, divided-root, divided-else}

@@ -4,7 +4,9 @@ use Prim.Native.Nat.{ℕ, _+_, _*_, _-_, _≤_}
 use native.Mathlib.Omega.{arith}
 use lib.ListN.{length, take, drop}
 use Rattle.code.proofs.Bytes.{bytes-every}
-use Rattle.repair.proofs.ColumnErrors.{Mended-to, mended-none, part-long, mended-long, mended-more, mended-whole, column-room}
+use Rattle.code.proofs.Cut.{value-fits}
+use Rattle.repair.proofs.PlaceRows.{part-long}
+use Rattle.repair.proofs.ColumnErrors.{Mended-to, mended-none, mended-long, mended-more, mended-whole}
 use Rattle.repair.proofs.search.apply_errors.Statement.{statement}
 use Rattle.repair.proofs.search.apply_errors.Tie as tie
 
@@ -19,7 +21,9 @@ module _ (c : tie.In-loop Inv-loop μ-loop) where
   room :
       c .before .loop .at + c .before .before .before .before .before .before .before .before .args .size
       ≤ c .before .before .before .before .before .before .before .before .args .n * c .before .before .before .before .before .before .before .before .args .size
-  room = let l = c .before .loop in column-room (l .k) (l .at) _ _ (c .loop-test .taken) (l .inv .1 .place)
+  room =
+      let a = c .before .before .before .before .before .before .before .before .args in
+      omega (arith, value-fits (c .before .loop .k) (a .n) (a .size) (c .loop-test .taken), c .before .loop .inv .1 .place)
 
   long : length (c .before .loop .output) ≡ length (c .before .before .before .before .before .before .before .before .args .output .now)
   long = mended-long (c .before .loop .inv .1) (omega (arith, room))

@@ -1,10 +1,10 @@
 -- `evaluate_all` meets its contract: each turn adds the next term of every plane's polynomial at every place. Assumes nothing.
-use mathlib.Core.Path.{_≡_, refl, sym, _∙_}
-use Prim.Native.Nat.{_+_, _*_, _-_, _≤_}
+use mathlib.Core.Path.{_≡_, refl, sym}
+use Prim.Native.Nat.{_+_, _-_, _≤_}
 use native.Mathlib.Omega.{arith}
-use lib.ListN.{drop, length-drop}
-use lib.Seq.{length-take-le, getD-take, getD-drop}
+use lib.Seq.{length-take-le}
 use Rattle.repair.specs.Search.{Evaluated}
+use Rattle.repair.proofs.Terms.{row-length, row-at}
 use Rattle.repair.proofs.PlaceRows.{evaluated-none, evaluated-more, evaluated-to}
 use Rattle.repair.proofs.search.evaluate_all.Statement.{statement}
 use Rattle.repair.proofs.search.evaluate_all.Tie as tie
@@ -56,7 +56,7 @@ add-products-requires c κs =
     let a = d .before .before .args in
     let m = d .loop .m in
     let found = c .before .before .before .place-powers in (
-      length-take-le (8 * m + 8 - 8 * m) (drop (8 * m) (a .coefficients .now)) (omega (arith, length-drop (8 * m) (a .coefficients .now))) ∙ omega arith,
+      row-length (a .coefficients .now) m (omega arith),
       omega (arith, length-take-le (a .n + a .count) (found .result) (omega (arith, found .ensures .long)), d .loop .inv .1 .long),
     )
 
@@ -73,7 +73,7 @@ loop-again c =
     let m = d .loop .m in (
       omega arith,
       evaluated-more m (a .n) (a .count) (a .coefficients .now) _ _ _ _ (omega arith) (λ i. d .before .shared-slice-known .given i .fits)
-          (λ p h. getD-take (8 * m + 8 - 8 * m) (drop (8 * m) (a .coefficients .now)) p 0 (omega arith) ∙ getD-drop (8 * m) (a .coefficients .now) p 0)
+          (row-at (a .coefficients .now) m)
           (c .before .before .before .before .before .place-powers .ensures) (d .loop .inv .1) (c .before .add-products .ensures),
     )
 

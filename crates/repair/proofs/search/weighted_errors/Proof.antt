@@ -43,15 +43,26 @@ add-j c = omega arith
 loop-less : tie.Need-loop-less Inv-loop μ-loop
 loop-less c = omega arith
 
+-- the byte written: of a root the error, of any other place 0
+error-is :
+    (c : tie.Joined1 Inv-loop μ-loop) →
+    c .if1 .error
+    ≡ value (λ k. getD (c .before .before .before .before .before .before .before .before .before .args .sums .now) k 0)
+    (c .before .before .before .before .before .before .before .before .before .args .locator .now)
+    (getD (c .before .before .before .before .before .before .before .before .before .args .places .now) (c .before .before .before .loop .j) 0)
+error-is c =
+    ⊎-elim (λ w. w .3 ∙ w .2 .ensures)
+    (λ w.
+    w .1
+    ∙ sym
+    (value-elsewhere _ _ _
+    (λ e.
+    w .0 .left
+    (c .before .before .before .before .before .before .before .before .before .pre .1 .1 .1 (c .before .before .before .loop .j) (omega arith) ∙ e))))
+    (c .if1 .came)
+
 loop-again : tie.Need-loop-again Inv-loop μ-loop
-loop-again c =
-    let d = c .before .before .before in
-    let s = d .before .before .before .before .before .before in (
-      omega arith,
-      lane-written-more _ _ _ _ _ _ (d .loop .inv .1) (omega arith)
-          (⊎-elim (λ w. w .3 ∙ w .2 .ensures)
-          (λ w. w .1 ∙ sym (value-elsewhere _ _ _ (λ e. w .0 .left (s .pre .1 .1 .1 (d .loop .j) (omega arith) ∙ e)))) (c .if1 .came)),
-    )
+loop-again c = (omega arith, lane-written-more _ _ _ _ _ _ (c .before .before .before .loop .inv .1) (omega arith) (error-is c))
 
 same-length : tie.Need-same-length Inv-loop μ-loop
 same-length c = c .before .loop .inv .1 .long

@@ -1,0 +1,220 @@
+-- From what the decoder of all planes finds to the answer: where a plane does not decode, it has no codeword near; where all do,
+-- the vector of their errors is the zeros repaired; and where the checks are the same, the zeros need no repair. Assumes nothing.
+use mathlib.Core.Path.{_≡_, refl, sym, _∙_, ap, ap₂}
+use mathlib.Core.Bool.{Bool, true, false}
+use mathlib.Core.List.{List, [], _∷_, _++_}
+use mathlib.Core.Logic.{inl, inr}
+use Prim.Native.Nat.{ℕ, zero, suc, _+_, _*_, _-_, _≤_, _<_}
+use native.Mathlib.Omega.{arith}
+use lib.ListN.{length, getD, drop, replicate, length-replicate, length-append, length-drop, List·getD-append}
+use lib.Seq.{take-all, ext-getD, getD-append-add, getD-drop}
+use native.Mathlib.Decide.{decLt}
+use Rattle.code.specs.Array.{Written}
+use Rattle.field.proofs.Xor.{plus-zero}
+use Rattle.code.specs.Settings.{Settings, settings, settings-refusal, check-count, value-size}
+use Rattle.code.specs.Polynomial.{root, added}
+use Rattle.code.specs.Plane.{syndrome, is-codeword}
+use Rattle.code.specs.Vector.{plane, cut, glued}
+use Rattle.code.specs.Repair.{Near}
+use Rattle.code.specs.Entry.{values-in, in-front}
+use Rattle.code.specs.Lanes.{lane}
+use Rattle.code.proofs.Bytes.{Bytes, bytes-zeros}
+use Rattle.code.proofs.Cut.{cut-length, cut-values, glued-cut}
+use Rattle.code.proofs.Lane.{lane-at, lane-zeros}
+use Rattle.code.proofs.Near.{differ-self}
+use Rattle.code.proofs.Vector.{Values, plane-length, plane-bytes, vector-back}
+use Rattle.code.proofs.Word.{sizes, word-back}
+use Rattle.repair.specs.Difference.{plus-values, zeros}
+use Rattle.repair.specs.Entry.{Done-by, none-found}
+use Rattle.repair.specs.Rows.{Values-added, Check-sums, Zeros-as}
+use Rattle.repair.specs.Search.{column-errors}
+use Rattle.repair.specs.Planes.{plane-sums, Decoded-as}
+use Rattle.repair.proofs.CheckRows.{values-lane, spare-lane}
+use Rattle.repair.proofs.CheckSums.{syndrome-zeros, summed-zeros, check-sums-syndrome, check-sums-spare}
+use Rattle.repair.proofs.Decoder.{sound, complete-size, complete}
+use Rattle.repair.proofs.Located.{column-errors-vector, column-errors-plane}
+use Rattle.repair.proofs.OwnVector.{plane-plus, plane-zeros, plus-values-length, plus-values-values}
+
+-- values of zero bytes, added to a vector
+zero-values : (n w : ℕ) → Values w (replicate n (replicate w 0))
+zero-values zero w = tt
+zero-values (suc n) w = (length-replicate w 0, bytes-zeros w, zero-values n w)
+
+added-zeros : (w : ℕ) (us : List ℕ) → length us ≡ w → Bytes us → added us (replicate w 0) ≡ us
+unfolding added
+added-zeros zero [] e b = refl
+added-zeros zero (u ∷ us) e b = absurd (omega arith)
+added-zeros (suc w) [] e b = absurd (omega arith)
+added-zeros (suc w) (u ∷ us) e b = ap₂ _∷_ (plus-zero u (b .0)) (added-zeros w us (omega arith) (b .1))
+
+plus-zero-values : (n w : ℕ) (vs : List (List ℕ)) → length vs ≡ n → Values w vs → plus-values vs (replicate n (replicate w 0)) ≡ vs
+unfolding plus-values
+plus-zero-values zero w [] e v = refl
+plus-zero-values zero w (x ∷ vs) e v = absurd (omega arith)
+plus-zero-values (suc n) w [] e v = absurd (omega arith)
+plus-zero-values (suc n) w (x ∷ vs) e v = ap₂ _∷_ (added-zeros w x (v .0) (v .1)) (plus-zero-values n w vs (omega arith) (v .2))
+
+plus-zeros : (n w : ℕ) (vector : List ℕ) → length vector ≡ n * w → Bytes vector → plus-values (cut n w vector) (replicate n (replicate w 0)) ≡ cut n w vector
+plus-zeros n w vector l b = plus-zero-values n w (cut n w vector) (cut-length n w vector) (cut-values n w vector (omega arith) b)
+
+glued-whole : (n w : ℕ) (vector : List ℕ) → length vector ≡ n * w → glued (cut n w vector) ≡ vector
+glued-whole n w vector l = glued-cut n w vector (omega arith) ∙ take-all (n * w) vector (omega arith)
+
+-- checks that differ are of settings with bad columns borne
+pub some-bad :
+    (t w : ℕ) (own checks rows : List ℕ) (e : Bool) → Zeros-as e rows → e ≡ false → Values-added (2 * t) w own checks rows → 1 ≤ t
+unfolding Zeros-as
+some-bad t w own checks rows true z q d = absurd (let y : _≡_ {A = ℕ} 0 1 = cc in omega arith)
+some-bad zero w own checks rows false (i, other) q d = absurd (other (d .beyond i (omega arith)))
+some-bad (suc t) w own checks rows false z q d = omega arith
+
+pub decoded-long :
+    (found : Bool) (planes : ℕ) (s : Settings) (sums weighted : List ℕ) → found ≡ true → Decoded-as found planes s sums weighted → length weighted ≡ 416
+unfolding Decoded-as
+decoded-long true planes s sums weighted e d = d .0 .long
+decoded-long false planes s sums weighted e d = absurd (let y : _≡_ {A = ℕ} 0 1 = cc in omega arith)
+
+-- a vector copied to the front of an output
+pub copied :
+    (vector out now : List ℕ) → length vector ≤ length out → Written 0 (length vector) (λ p. getD vector (0 + p) 0) out now → now ≡ in-front vector out
+unfolding in-front
+copied vector out now h w =
+    ext-getD 0 now (vector ++ drop (length vector) out) (w .long ∙ sym (length-append vector _ ∙ long)) (λ i l. go i (decLt i (length vector)))
+  where
+    long : length vector + length (drop (length vector) out) ≡ length out
+    long = omega (arith, length-drop (length vector) out)
+
+    go : (i : ℕ) → Dec (i < length vector) → getD now i 0 ≡ getD (vector ++ drop (length vector) out) i 0
+    go i (yes a) =
+        ap (λ (k : ℕ). getD now k 0) (let e : i ≡ 0 + i = omega arith in e) ∙ w .new i a ∙ ap (λ (k : ℕ). getD vector k 0) (let e : 0 + i ≡ i = omega arith in e)
+        ∙ sym (List·getD-append vector (drop (length vector) out) 0 i a)
+    go i (no a) =
+        w .after i (omega arith) ∙ ap (λ (k : ℕ). getD out k 0) (let e : i ≡ length vector + (i - length vector) = omega arith in e)
+        ∙ sym (ap (λ (k : ℕ). getD (vector ++ drop (length vector) out) k 0) (let e : i ≡ length vector + (i - length vector) = omega arith in e)
+        ∙ getD-append-add vector (drop (length vector) out) (i - length vector) 0 ∙ getD-drop (length vector) out (i - length vector) 0)
+
+module _ (n t w : ℕ) (vector own checks rows : List ℕ) (allowed : settings-refusal (settings n t w) ≡ 0) (own-bytes : Bytes own) (check-bytes : Bytes checks) (own-long : length own ≡ 2 * t * w) (checks-long : length checks ≡ 2 * t * w) (difference : Values-added (2 * t) w own checks rows) where
+  abbrev s : Settings
+  s = settings n t w
+
+  abbrev ours : List (List ℕ)
+  ours = cut (2 * t) w own
+
+  abbrev theirs : List (List ℕ)
+  theirs = cut (2 * t) w checks
+
+  abbrev apart : List (List ℕ)
+  apart = plus-values ours theirs
+
+  ours-values : Values w ours
+  ours-values = cut-values (2 * t) w own (omega arith) own-bytes
+
+  theirs-values : Values w theirs
+  theirs-values = cut-values (2 * t) w checks (omega arith) check-bytes
+
+  apart-long : (p : ℕ) → length (plane p apart) ≡ 2 * t
+  apart-long p =
+      plane-length p apart ∙ plus-values-length ours theirs (cut-length (2 * t) w own ∙ sym (cut-length (2 * t) w checks)) ∙ cut-length (2 * t) w own
+
+  apart-bytes : (p : ℕ) → Bytes (plane p apart)
+  apart-bytes p = plane-bytes p w apart (plus-values-values w ours theirs ours-values theirs-values)
+
+  -- a plane of the difference is a plane of the rows
+  apart-lane : (p : ℕ) → p < w → lane p (2 * t) rows ≡ plane p apart
+  apart-lane p h = values-lane (2 * t) w own checks rows difference p h ∙ sym (plane-plus p w ours theirs ours-values theirs-values)
+
+  -- the sums are its syndromes
+  module _ (sums : List ℕ) (summed : Check-sums (2 * t) (2 * t) rows sums) (small : w ≤ 8) where
+    same-sums : (p : ℕ) → p < w → (i : ℕ) → i < 2 * t → plane-sums p (2 * t) sums i ≡ syndrome s i (replicate n 0) (plane p apart)
+    unfolding settings check-count
+    same-sums p h i l =
+        lane-at p (2 * t) sums i l ∙ check-sums-syndrome s n (2 * t) rows sums refl summed i p l (omega arith) ∙ ap (syndrome s i (replicate n 0)) (apart-lane p h)
+
+    pub sums-spare : (i p : ℕ) → i < 2 * t → w ≤ p → p < 8 → getD sums (8 * i + p) 0 ≡ 0
+    sums-spare i p h l k = check-sums-spare (2 * t) rows sums summed i p h k (spare-lane (2 * t) w own checks rows difference p l k)
+
+    -- some plane does not decode
+    pub answer-none :
+        (found : Bool) (weighted out : List ℕ) → found ≡ false → Decoded-as found w s sums weighted → Done-by s (values-in s n vector) ours theirs none-found out out
+    unfolding settings check-count value-size Decoded-as Done-by
+    answer-none true weighted out e d = absurd (let z : _≡_ {A = ℕ} 0 1 = cc in omega arith)
+    answer-none false weighted out e (p, h, fails) =
+        inr (
+          refl,
+          record {
+            at-plane = p;
+            inside = h;
+            none-near = λ us ds near.
+                let close : Near s (replicate n 0) (plane p apart) us ds = rw (plane-zeros s p) at near in
+                fails
+                (record {
+                  short = complete-size s (plane p apart) (plane-sums p (2 * t) sums) allowed (apart-long p) (apart-bytes p) (same-sums p h) us ds close;
+                  explained = complete s (plane p apart) (plane-sums p (2 * t) sums) allowed (apart-long p) (apart-bytes p) (same-sums p h) us ds close;
+                });
+          },
+          refl,
+        )
+
+    -- every plane does
+    pub answer-found :
+        (found : Bool) (weighted out now : List ℕ) → found ≡ true → Decoded-as found w s sums weighted →
+        now ≡ in-front (glued (plus-values (cut n w vector) (column-errors n 0 w weighted))) out → Done-by s (values-in s n vector) ours theirs 0 out now
+    unfolding settings check-count value-size Decoded-as Done-by values-in
+    answer-found false weighted out now e d back = absurd (let z : _≡_ {A = ℕ} 0 1 = cc in omega arith)
+    answer-found true weighted out now e d back =
+        inl (
+          refl,
+          (
+            column-errors n 0 w weighted,
+            record {
+              vector = column-errors-vector s weighted small (omega (arith, d .0 .long, sizes s allowed .few-columns));
+              planes = λ p h.
+                  let near =
+                  sound s (plane p apart) (plane-sums p (2 * t) sums) allowed (apart-long p) (apart-bytes p) (same-sums p h)
+                  (lane p (n + 2 * t) weighted) (plane p (column-errors n 0 w weighted)) (d .0 .located p h) (d .1 p h)
+                  (column-errors-plane s p (n + 2 * t) weighted h (omega arith) (d .0 .bytes)) in
+                  (near .0, rw (plane-zeros s p) (near .1));
+            },
+            back,
+          ),
+        )
+
+  -- the difference is zero: the zeros are a codeword with no checks
+  pub answer-same :
+      (out now : List ℕ) → w ≤ 8 → ((i : ℕ) → getD rows i 0 ≡ 0) → length vector ≡ n * w → Bytes vector → now ≡ in-front vector out →
+      Done-by s (values-in s n vector) ours theirs 0 out now
+  unfolding settings check-count value-size Done-by values-in zeros
+  answer-same out now small z l b back =
+      inl (
+        refl,
+        (
+          zeros s,
+          record {
+            vector = vector-back s (zeros s) (record { many = length-replicate n (replicate w 0); values = zero-values n w });
+            planes = λ p h. (
+              replicate (2 * t) 0,
+              record {
+                codeword = ap₂ (is-codeword s) (plane-zeros s p) refl ∙ zero-codeword;
+                within =
+                    rw (plane-zeros s p, sym (apart-lane p h) ∙ lane-zeros p (2 * t) rows (λ j k. z (8 * j + p)))
+                    (omega (arith, differ-self (replicate n 0), differ-self (replicate (2 * t) 0)));
+              },
+            );
+          },
+          back ∙ ap (λ (bs : List ℕ). in-front bs out) (sym (glued-whole n w vector l) ∙ ap glued (sym (plus-zeros n w vector l b))),
+        ),
+      )
+    where
+      zero-codeword : is-codeword s (replicate n 0) (replicate (2 * t) 0) ≡ true
+      zero-codeword =
+          word-back s (replicate n 0) (replicate (2 * t) 0)
+          (record {
+            shape =
+                record {
+                  many = length-replicate n 0;
+                  many-checks = length-replicate (2 * t) 0;
+                  bytes = bytes-zeros n;
+                  check-bytes = bytes-zeros (2 * t);
+                };
+            roots = λ i h. syndrome-zeros s i n (replicate (2 * t) 0) ∙ summed-zeros (root i) _ (2 * t);
+          })

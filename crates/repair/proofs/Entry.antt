@@ -1,0 +1,130 @@
+-- What the repair calls say, case by case: refused under one of the numbers' conditions, or accepted under none of them, and then
+-- what the work beneath promises. Assumes nothing.
+use mathlib.Core.Path.{_≡_, refl, sym, _∙_, subst}
+use mathlib.Core.Bool.{Bool, true, false, _||_, not, cond}
+use mathlib.Core.List.{List}
+use mathlib.Core.Logic.{_⊎_, inl, inr}
+use Prim.Native.Nat.{ℕ, zero, suc, _*_, _≤_}
+use native.Mathlib.Omega.{arith}
+use native.Mathlib.Decide.{ℕ-discrete}
+use lib.Dec.{eqb, ltb}
+use lib.ListN.{length}
+use borrow.Author.Tests.{eq-eqb, ne-eqb, le-ltb, eqb-true, ltb-false}
+use Rattle.code.specs.Settings.{settings, settings-refusal, check-count, value-size}
+use Rattle.code.specs.Entry.{values-in}
+use Rattle.repair.specs.Entry.{repair-refusal, Done, Repair-as, Repair-says, repair-by-refusal, Done-by, Repair-by-as, Repair-by-says}
+
+-- three tests of lengths
+some-refuses : (a b d : Bool) → (a ≡ false) ⊎ ((b ≡ false) ⊎ (d ≡ true)) → _≡_ {A = ℕ} (cond (not a || (not b || d)) 18 0) 18
+some-refuses false b d s = refl
+some-refuses true false d s = refl
+some-refuses true true true s = refl
+some-refuses true true false (inl e) = absurd (let z : _≡_ {A = ℕ} 0 1 = cc in omega arith)
+some-refuses true true false (inr (inl e)) = absurd (let z : _≡_ {A = ℕ} 0 1 = cc in omega arith)
+some-refuses true true false (inr (inr e)) = absurd (let z : _≡_ {A = ℕ} 0 1 = cc in omega arith)
+
+none-refuses : (a b d : Bool) → _≡_ {A = ℕ} (cond (not a || (not b || d)) 18 0) 0 → (a ≡ true) × (b ≡ true) × (d ≡ false)
+none-refuses true true false e = (refl, refl, refl)
+none-refuses true true true e = absurd (omega arith)
+none-refuses true false d e = absurd (omega arith)
+none-refuses false b d e = absurd (omega arith)
+
+module _ (n t w : ℕ) where
+  -- the number
+  module _ (v c k : ℕ) where
+    pub refused-settings :
+        (r : ℕ) → r ≡ settings-refusal (settings n t w) → (r ≡ 0 → ⊥) → r ≡ repair-refusal (settings n t w) v c k
+    unfolding repair-refusal
+    refused-settings r e h = rw (← e, ne-eqb r 0 h)
+
+    number :
+        settings-refusal (settings n t w) ≡ 0 →
+        repair-refusal (settings n t w) v c k ≡ cond (not (eqb v (n * w)) || (not (eqb c (2 * t * w)) || ltb k (n * w))) 18 0
+    unfolding repair-refusal settings check-count value-size
+    number e = rw e
+
+    pub refused-length :
+        settings-refusal (settings n t w) ≡ 0 → (eqb v (n * w) ≡ false) ⊎ ((eqb c (2 * t * w) ≡ false) ⊎ (ltb k (n * w) ≡ true)) →
+        18 ≡ repair-refusal (settings n t w) v c k
+    refused-length e s = sym (number e ∙ some-refuses (eqb v (n * w)) (eqb c (2 * t * w)) (ltb k (n * w)) s)
+
+    pub not-refused :
+        settings-refusal (settings n t w) ≡ 0 → v ≡ n * w → c ≡ 2 * t * w → n * w ≤ k → 0 ≡ repair-refusal (settings n t w) v c k
+    not-refused e f g h = sym (number e ∙ all-pass)
+      where
+        all-pass : _≡_ {A = ℕ} (cond (not (eqb v (n * w)) || (not (eqb c (2 * t * w)) || ltb k (n * w))) 18 0) 0
+        all-pass = rw (eq-eqb v (n * w) f, eq-eqb c (2 * t * w) g, le-ltb k (n * w) h)
+
+    pub record Accepted : Type 0 where
+      pub allowed : settings-refusal (settings n t w) ≡ 0
+      pub vector : v ≡ n * w
+      pub checks : c ≡ 2 * t * w
+      pub room : n * w ≤ k
+
+    pub accepted : repair-refusal (settings n t w) v c k ≡ 0 → Accepted
+    accepted e = go (ℕ-discrete (settings-refusal (settings n t w)) 0)
+      where
+        go : Dec (settings-refusal (settings n t w) ≡ 0) → Accepted
+        go (yes f) =
+            let p = none-refuses (eqb v (n * w)) (eqb c (2 * t * w)) (ltb k (n * w)) (sym (number f) ∙ e) in
+            record { allowed = f; vector = eqb-true v (n * w) (p .0); checks = eqb-true c (2 * t * w) (p .1); room = ltb-false k (n * w) (p .2) }
+        go (no f) = absurd (f (refused-settings (settings-refusal (settings n t w)) refl f ∙ e))
+
+  -- what the calls say
+  module _ (vector checks out : List ℕ) where
+    refused-as : (k : ℕ) → (k ≡ 0 → ⊥) → Repair-as k (settings n t w) vector checks k out out
+    unfolding Repair-as
+    refused-as zero h = absurd (h refl)
+    refused-as (suc k) h = (refl, refl)
+
+    pub repair-refused :
+        (r : ℕ) → r ≡ repair-refusal (settings n t w) (length vector) (length checks) (length out) → (r ≡ 0 → ⊥) → Repair-says n t w vector checks r out out
+    unfolding Repair-says
+    repair-refused r e h = subst (λ (j : ℕ). Repair-as j (settings n t w) vector checks r out out) e (refused-as r h)
+
+    pub repair-done :
+        (r : ℕ) (now : List ℕ) → repair-refusal (settings n t w) (length vector) (length checks) (length out) ≡ 0 →
+        Done (settings n t w) (values-in (settings n t w) n vector) (values-in (settings n t w) (2 * t) checks) r out now →
+        Repair-says n t w vector checks r out now
+    unfolding Repair-says Repair-as settings check-count
+    repair-done r now e d = subst (λ (j : ℕ). Repair-as j (settings n t w) vector checks r out now) (sym e) d
+
+    module _ (own : List ℕ) where
+      by-as : (k : ℕ) → (k ≡ 0 → ⊥) → Repair-by-as k (settings n t w) vector own checks k out out
+      unfolding Repair-by-as
+      by-as zero h = absurd (h refl)
+      by-as (suc k) h = (refl, refl)
+
+      pub repair-by-refused :
+          (r : ℕ) → r ≡ repair-refusal (settings n t w) (length vector) (length checks) (length out) → (r ≡ 0 → ⊥) →
+          Repair-by-says n t w vector own checks r out out
+      unfolding Repair-by-says repair-by-refusal
+      repair-by-refused r e h = subst (λ (j : ℕ). Repair-by-as j (settings n t w) vector own checks r out out) (sym same) (by-as r h)
+        where
+          same : repair-by-refusal (settings n t w) (length vector) (length own) (length checks) (length out) ≡ r
+          same = rw (← e, ne-eqb r 0 h)
+
+      own-number :
+          repair-refusal (settings n t w) (length vector) (length checks) (length out) ≡ 0 →
+          repair-by-refusal (settings n t w) (length vector) (length own) (length checks) (length out) ≡ cond (eqb (length own) (2 * t * w)) 0 18
+      unfolding repair-by-refusal settings check-count value-size
+      own-number e = rw e
+
+      pub repair-by-own :
+          repair-refusal (settings n t w) (length vector) (length checks) (length out) ≡ 0 → (length own ≡ 2 * t * w → ⊥) →
+          Repair-by-says n t w vector own checks 18 out out
+      unfolding Repair-by-says
+      repair-by-own e h = subst (λ (j : ℕ). Repair-by-as j (settings n t w) vector own checks 18 out out) (sym (own-number e ∙ refuses)) (by-as 18 (λ z. omega arith))
+        where
+          refuses : _≡_ {A = ℕ} (cond (eqb (length own) (2 * t * w)) 0 18) 18
+          refuses = rw (ne-eqb (length own) (2 * t * w) h)
+
+      pub repair-by-done :
+          (r : ℕ) (now : List ℕ) → repair-refusal (settings n t w) (length vector) (length checks) (length out) ≡ 0 → length own ≡ 2 * t * w →
+          Done-by (settings n t w) (values-in (settings n t w) n vector) (values-in (settings n t w) (2 * t) own) (values-in (settings n t w) (2 * t) checks) r out now →
+          Repair-by-says n t w vector own checks r out now
+      unfolding Repair-by-says Repair-by-as settings check-count
+      repair-by-done r now e h d = subst (λ (j : ℕ). Repair-by-as j (settings n t w) vector own checks r out now) (sym (own-number e ∙ passes)) d
+        where
+          passes : _≡_ {A = ℕ} (cond (eqb (length own) (2 * t * w)) 0 18) 0
+          passes = rw (eq-eqb (length own) (2 * t * w) h)

@@ -1,0 +1,70 @@
+-- The decoder of all planes, case by case. A locator that is too long, more errors than t, or sums that the errors do not explain:
+-- each shows a plane that does not decode. Where none of these is, the errors explain every plane. Assumes nothing.
+use mathlib.Core.Path.{_≡_, refl, sym, _∙_, ap}
+use mathlib.Core.Bool.{Bool, true, false}
+use mathlib.Core.List.{List}
+use Prim.Native.Nat.{ℕ, _+_, _*_, _≤_, _<_}
+use native.Mathlib.Omega.{arith}
+use lib.ListN.{getD}
+use Rattle.field.specs.Field.{plus}
+use Rattle.code.specs.Settings.{Settings, settings, check-count}
+use Rattle.code.specs.Lanes.{lane}
+use Rattle.code.proofs.Lane.{lane-at}
+use Rattle.repair.specs.Errors.{error-sum, wrong-places}
+use Rattle.repair.specs.Rows.{Explained-as}
+use Rattle.repair.specs.Planes.{Locators, Locators-as, Weighted, Counted-as, Decoded-as}
+use Rattle.repair.proofs.ErrorSums.{explained-planes, unexplained-plane}
+
+-- locators
+pub all-located :
+    (found : Bool) (planes count t : ℕ) (sums sizes rows : List ℕ) → found ≡ true → Locators-as found planes count t sums sizes rows →
+    Locators planes count t sums sizes rows
+unfolding Locators-as
+all-located true planes count t sums sizes rows e d = d
+all-located false planes count t sums sizes rows e d = absurd (let z : _≡_ {A = ℕ} 0 1 = cc in omega arith)
+
+pub not-located :
+    (found : Bool) (n t planes : ℕ) (sums sizes rows weighted : List ℕ) → found ≡ false → Locators-as found planes (2 * t) t sums sizes rows →
+    Decoded-as false planes (settings n t planes) sums weighted
+unfolding Locators-as Decoded-as settings check-count
+not-located false n t planes sums sizes rows weighted e (p, h, l) = (p, h, λ d. omega (arith, d .short))
+not-located true n t planes sums sizes rows weighted e d = absurd (let z : _≡_ {A = ℕ} 0 1 = cc in omega arith)
+
+-- errors, counted
+pub record Counted (planes : ℕ) (s : Settings) (sums weighted : List ℕ) : Type 0 where
+  pub errors : Weighted planes s sums weighted
+  pub few : (p : ℕ) → p < planes → wrong-places (lane p (s .n + check-count s) weighted) ≤ s .t
+
+pub all-counted :
+    (found : Bool) (planes : ℕ) (s : Settings) (sums weighted : List ℕ) → found ≡ true → Counted-as found planes s sums weighted → Counted planes s sums weighted
+unfolding Counted-as
+all-counted true planes s sums weighted e d = record { errors = d .0; few = d .1 }
+all-counted false planes s sums weighted e d = absurd (let z : _≡_ {A = ℕ} 0 1 = cc in omega arith)
+
+pub not-counted :
+    (found : Bool) (planes : ℕ) (s : Settings) (sums weighted : List ℕ) → found ≡ false → Counted-as found planes s sums weighted →
+    Decoded-as found planes s sums weighted
+unfolding Counted-as Decoded-as
+not-counted false planes s sums weighted e (p, h, (ys, located, l)) = (p, h, λ d. omega (arith, d .explained ys located .few))
+not-counted true planes s sums weighted e d = absurd (let z : _≡_ {A = ℕ} 0 1 = cc in omega arith)
+
+-- and the sums that they explain or do not
+pub decoded :
+    (e : Bool) (planes : ℕ) (s : Settings) (sums weighted : List ℕ) → planes ≤ 8 →
+    ((i p : ℕ) → i < check-count s → planes ≤ p → p < 8 → getD sums (8 * i + p) 0 ≡ 0) → Counted planes s sums weighted → Explained-as e s sums weighted →
+    Decoded-as e planes s sums weighted
+unfolding Decoded-as
+decoded true planes s sums weighted h z d x = (
+  d .errors,
+  λ p l.
+      record {
+        few = d .few p l;
+        sums = λ i k. ap (λ (a : ℕ). plus a (error-sum s i 0 (lane p (s .n + check-count s) weighted))) (lane-at p (check-count s) sums i k) ∙ explained-planes s sums weighted true x refl p (omega arith) i k;
+      },
+)
+decoded false planes s sums weighted h z d x =
+    let u = unexplained-plane s sums weighted false x refl planes z (λ j p g l k. d .errors .others j p l k) in (
+      u .0,
+      u .1,
+      λ c. u .2 (λ i k. ap (λ (a : ℕ). plus a (error-sum s i 0 (lane (u .0) (s .n + check-count s) weighted))) (sym (lane-at (u .0) (check-count s) sums i k)) ∙ c .explained _ (d .errors .located (u .0) (u .1)) .sums i k),
+    )

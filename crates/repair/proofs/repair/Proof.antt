@@ -1,0 +1,90 @@
+-- `repair` meets its contract: the own check values are worked out, and the vector is repaired by the difference to them.
+-- Assumes nothing.
+use mathlib.Core.Path.{_≡_, sym, _∙_, subst}
+use mathlib.Core.Bool.{true}
+use Prim.Native.Nat.{ℕ, _*_, _≤_}
+use native.Mathlib.Omega.{arith}
+use lib.ListN.{length, take}
+use lib.Seq.{length-take-le}
+use Rattle.code.specs.Settings.{settings, settings-refusal}
+use Rattle.code.specs.Vector.{has-checks}
+use Rattle.code.specs.Entry.{values-in}
+use Rattle.code.proofs.Bytes.{bytes-every}
+use Rattle.code.proofs.Cut.{check-room}
+use Rattle.code.proofs.Word.{sizes}
+use Rattle.repair.specs.Entry.{By-own-checks}
+use Rattle.repair.proofs.ByOwnChecks.{by-own-checks}
+use Rattle.repair.proofs.OwnChecks.{own-checks, is-vector-in, are-checks-in}
+use Rattle.repair.proofs.Entry.{Accepted, accepted, repair-refused, repair-done}
+use borrow.Author.Needs.{needs}
+use Rattle.repair.proofs.repair.Statement.{statement}
+use Rattle.repair.proofs.repair.Tie as tie
+
+-- the lengths of a call that is not refused
+taken-up : (c : tie.Else1) → let a = c .before .before .before .before .before .args in Accepted (a .n) (a .t) (a .w) (length (a .vector .now)) (length (a .checks .now)) (length (a .output .now))
+taken-up c = accepted _ _ _ _ _ _ (sym (c .before .refused .ensures) ∙ c .if1 .left)
+
+room : (n t w : ℕ) → settings-refusal (settings n t w) ≡ 0 → 2 * t * w ≤ 160
+unfolding settings
+room n t w e = let z = sizes (settings n t w) e in check-room t w (omega (arith, z .few-columns, z .few-bad)) (z .few-bytes)
+
+refused-requires : tie.Need-refused-requires
+refused-requires c κs = search needs
+
+returns : tie.Need-returns
+returns c = let a = c .before .before .before .before .before .args in repair-refused (a .n) (a .t) (a .w) (a .vector .now) (a .checks .now) (a .output .now) _ (c .before .refused .ensures) (c .if1 .taken)
+
+slice-aggregate-check-values : tie.Need-slice-aggregate-check-values
+slice-aggregate-check-values c = search needs
+
+check-values-requires : tie.Need-check-values-requires
+check-values-requires c κs = search needs
+
+array-share-prefix-own : tie.Need-array-share-prefix-own
+array-share-prefix-own c =
+    let d = taken-up (c .before .before .before) in omega (arith, d .checks, room _ _ _ (d .allowed), c .before .check-values .kept .1 .1 .1 .1 .0)
+
+slice-aggregate-by-difference : tie.Need-slice-aggregate-by-difference
+slice-aggregate-by-difference c =
+    let d = taken-up (c .before .before .before .before) in
+    sym (length-take-le _ _ (omega (arith, d .checks, room _ _ _ (d .allowed), c .before .before .check-values .kept .1 .1 .1 .1 .0)))
+
+by-difference-requires : tie.Need-by-difference-requires
+by-difference-requires c κs =
+    let d = taken-up (c .before .before .before .before .before) in
+    let own = length-take-le (length (c .before .before .before .before .before .before .before .before .before .before .args .checks .now)) (c .before .before .before .check-values .last .1 .1 .1 .1 .0) (omega (arith, d .checks, room _ _ _ (d .allowed), c .before .before .before .check-values .kept .1 .1 .1 .1 .0)) in
+    (d .allowed, (d .vector, own ∙ d .checks, d .checks, d .room))
+
+same-length : tie.Need-same-length
+same-length c = search needs
+
+returns-2 : tie.Need-returns-2
+unfolding By-own-checks
+returns-2 c =
+    let d = taken-up (c .before .before .before .before .before .before .before .before) in
+    let f = c .before .before .before .before .before .before .before .before .before .before .before .before .before in
+    let a = f .args in
+    let s = settings (a .n) (a .t) (a .w) in
+    let own = c .before .before .before .before .before .before .check-values in
+    repair-done (a .n) (a .t) (a .w) (a .vector .now) (a .checks .now) (a .output .now) _ _ (sym (c .before .before .before .before .before .before .before .before .before .refused .ensures) ∙ c .before .before .before .before .before .before .before .before .if1 .left)
+    (by-own-checks s (values-in s (a .n) (a .vector .now)) (values-in s (2 * a .t) (take (length (a .checks .now)) (own .last .1 .1 .1 .1 .0)))
+    (values-in s (2 * a .t) (a .checks .now)) _ _ _
+    (is-vector-in (a .n) (a .t) (a .w) (a .vector .now) (d .vector) (bytes-every (a .vector .now) (λ i. c .before .before .before .before .before .before .before .before .before .before .before .before .shared-slice-known .given i .fits)))
+    (subst (λ (k : ℕ). has-checks s (values-in s (a .n) (a .vector .now)) (values-in s (2 * a .t) (take k (own .last .1 .1 .1 .1 .0))) ≡ true) (sym (d .checks))
+    (own-checks (a .n) (a .t) (a .w) _ (a .vector .now) _ _ (d .allowed) (d .vector) (room (a .n) (a .t) (a .w) (d .allowed)) (own .ensures)))
+    (are-checks-in (a .n) (a .t) (a .w) (a .checks .now) (d .checks) (bytes-every (a .checks .now) (λ i. c .before .before .before .before .before .before .before .before .before .before .before .shared-slice-known2 .given i .fits)))
+    (c .before .before .by-difference .ensures))
+
+pub repair-spec : {M : Type 1} → statement M
+repair-spec =
+    tie.close
+    (tie.spec
+    refused-requires
+    returns
+    slice-aggregate-check-values
+    check-values-requires
+    array-share-prefix-own
+    slice-aggregate-by-difference
+    by-difference-requires
+    same-length
+    returns-2)
