@@ -1,0 +1,92 @@
+//! libfec (Debian's libfec-dev) set to this field and these roots: a block of 255 bytes for each plane, column k at k - 1
+//! and the checks at the end, zeros between. Its answer is "none" where it gives up, changes more than t bytes, or changes
+//! a byte between.
+
+use std::ffi::{c_int, c_void};
+use std::ptr;
+
+unsafe extern "C" {
+    fn init_rs_char(
+        symsize: c_int,
+        gfpoly: c_int,
+        fcr: c_int,
+        prim: c_int,
+        nroots: c_int,
+        pad: c_int,
+    ) -> *mut c_void;
+    fn encode_rs_char(rs: *mut c_void, data: *mut u8, parity: *mut u8);
+    fn decode_rs_char(
+        rs: *mut c_void,
+        data: *mut u8,
+        eras_pos: *mut c_int,
+        no_eras: c_int,
+    ) -> c_int;
+}
+
+/// A coder for each t. It lives as long as the program.
+pub struct Coders([*mut c_void; 11]);
+
+impl Coders {
+    pub fn new() -> Self {
+        Coders(std::array::from_fn(|t| match t {
+            0 => ptr::null_mut(),
+            _ => unsafe { init_rs_char(8, 0x187, 120, 1, 2 * t as c_int, 0) },
+        }))
+    }
+
+    /// The check values of a vector.
+    pub fn checks(&self, n: usize, t: usize, w: usize, vector: &[u8]) -> Vec<u8> {
+        let mut checks = vec![0; 2 * t * w];
+        for p in 0..w {
+            let mut block = [0; 255];
+            for k in 0..n {
+                block[k] = vector[k * w + p];
+            }
+            if t > 0 {
+                let (data, parity) = block.split_at_mut(255 - 2 * t);
+                unsafe { encode_rs_char(self.0[t], data.as_mut_ptr(), parity.as_mut_ptr()) };
+                for c in 0..2 * t {
+                    checks[c * w + p] = parity[c];
+                }
+            }
+        }
+        checks
+    }
+
+    /// Repair of lengths that are right: 0 and the vector in front of the output, or 256 for none.
+    pub fn repair(
+        &self,
+        n: usize,
+        t: usize,
+        w: usize,
+        vector: &[u8],
+        checks: &[u8],
+        output: &mut [u8],
+    ) -> u32 {
+        let mut repaired = [0; 256];
+        for p in 0..w {
+            let mut block = [0; 255];
+            for k in 0..n {
+                block[k] = vector[k * w + p];
+            }
+            for c in 0..2 * t {
+                block[255 - 2 * t + c] = checks[c * w + p];
+            }
+            if t > 0 {
+                let changed =
+                    unsafe { decode_rs_char(self.0[t], block.as_mut_ptr(), ptr::null_mut(), 0) };
+                if changed < 0
+                    || changed > t as c_int
+                    || block[n..255 - 2 * t].iter().any(|&b| b != 0)
+                {
+                    return 256;
+                }
+            }
+            for k in 0..n {
+                repaired[k * w + p] = block[k];
+            }
+        }
+        output[..n * w].copy_from_slice(&repaired[..n * w]);
+        0
+    }
+}
