@@ -13,7 +13,7 @@ use Rattle.code.proofs.Bytes.{and-split, and-both}
 use Rattle.column.specs.Value.{Value, is-blank}
 use Rattle.column.specs.Frame.{frame-size, round-in, sender-in, run-in}
 use Rattle.column.specs.Record.{Rec, taken-at, is-taken}
-use Rattle.column.specs.Refusal.{first-of, number-refusal, size-refusal, blank-refusal, round-refusal, slot-refusal, frame-refusal, open-refusal, record-refusal, take-refusal, close-refusal}
+use Rattle.column.specs.Refusal.{first-of, number-refusal, size-refusal, blank-refusal, round-refusal, slot-refusal, frame-refusal, open-refusal, record-refusal, take-refusal, close-refusal, ask-refusal}
 use Rattle.column.proofs.Bool.{or-false}
 
 -- chains
@@ -52,6 +52,10 @@ pub round-inside : (m : ℕ) → round-refusal m ≡ 0 → (1 ≤ m) × (m ≤ 3
 unfolding round-refusal
 round-inside m e = between 1 m 3 (passed-zero _ 7 (omega arith) e)
 
+pub slot-inside : (s : Settings) (own k : ℕ) → slot-refusal s own k ≡ 0 → (1 ≤ k) × (k ≤ s .n)
+unfolding slot-refusal
+slot-inside s own k e = between 1 k (s .n) (not-false _ (or-false _ _ (refused-zero _ 8 0 (omega arith) e .0) .0))
+
 pub record Opens (s : Settings) (k : ℕ) (v : Value) : Type 0 where
   pub fine : settings-refusal s ≡ 0
   pub low : 1 ≤ k
@@ -85,6 +89,10 @@ close-round r e = round-inside (r .round) (first-of-zero _ _ e .1)
 pub close-settings : (r : Rec) → close-refusal r ≡ 0 → settings-refusal (r .settings) ≡ 0
 unfolding close-refusal record-refusal
 close-settings r e = first-of-zero _ _ (first-of-zero _ _ e .0) .0
+
+pub ask-round : (r : Rec) → ask-refusal r ≡ 0 → r .round ≡ 4
+unfolding ask-refusal
+ask-round r e = eqb-true _ _ (passed-zero (eqb (r .round) 4) 17 (omega arith) (first-of-zero _ _ e .1))
 
 -- a record of an opened column is not turned down
 pub record-fine : (r : Rec) → Opens (r .settings) (r .number) (r .own) → record-refusal r ≡ 0
@@ -132,18 +140,24 @@ fitting-refusal s run m k taken bs h f =
 
 -- a frame that is taken
 pub record Taken (r : Rec) (k : ℕ) (bs : List ℕ) : Type 0 where
+  pub fine : settings-refusal (r .settings) ≡ 0
   pub low : 1 ≤ k
   pub high : k ≤ r .settings .n
   pub fits : Fits (r .settings) (r .run) (r .round) k bs
 
 pub taken-of : (r : Rec) (k : ℕ) (bs : List ℕ) → take-refusal r k bs ≡ 0 → Taken r k bs
-unfolding take-refusal slot-refusal
+unfolding take-refusal record-refusal
 taken-of r k bs e =
     let record-line = first-of-zero _ _ e in
     let round-line = first-of-zero _ _ (record-line .1) in
     let slot-line = first-of-zero _ _ (round-line .1) in
-    let inside = between 1 k (r .settings .n) (not-false _ (or-false _ _ (refused-zero _ 8 0 (omega arith) (slot-line .0) .0) .0)) in
-    record { low = inside .0; high = inside .1; fits = frame-fits _ _ _ _ _ bs (slot-line .1) }
+    let inside = slot-inside _ _ k (slot-line .0) in
+    record {
+      fine = first-of-zero _ _ (record-line .0) .0;
+      low = inside .0;
+      high = inside .1;
+      fits = frame-fits _ _ _ _ _ bs (slot-line .1);
+    }
 
 -- and one that fits, in another's slot, is turned down only if one was taken there
 pub take-refusal-last :

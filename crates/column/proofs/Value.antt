@@ -3,9 +3,9 @@
 use mathlib.Core.Path.{_≡_, refl, sym, _∙_, ap, ap₂}
 use mathlib.Core.Bool.{true, false, _&&_}
 use mathlib.Core.List.{[], _∷_}
-use Prim.Native.Nat.{ℕ, zero, suc, _+_, _<_}
+use Prim.Native.Nat.{ℕ, zero, suc, _+_, _<_, _≤_}
 use native.Mathlib.Omega.{arith}
-use lib.ListN.{length, getD, replicate, length-replicate}
+use lib.ListN.{length, getD, take, replicate, length-replicate}
 use borrow.Author.Tests.{eq-eqb}
 use Rattle.code.specs.Settings.{Settings, value-size}
 use Rattle.code.specs.Vector.{same}
@@ -25,10 +25,15 @@ pub differ-of-not-same : (a b : Value) → same a b ≡ false → a ≡ b → �
 differ-of-not-same a b e f = true-not-false (sym (same-of-equal a b f) ∙ e)
 
 -- blank
-zeros-blank : (w : ℕ) → is-blank (replicate w 0) ≡ true
+pub zeros-blank : (w : ℕ) → is-blank (replicate w 0) ≡ true
 unfolding is-blank
 zeros-blank zero = refl
 zeros-blank (suc w) = zeros-blank w
+
+pub take-replicate : {A : Type 0} (m n : ℕ) (x : A) → m ≤ n → take m (replicate n x) ≡ replicate m x
+take-replicate zero n x h = refl
+take-replicate (suc m) zero x h = absurd (omega arith)
+take-replicate (suc m) (suc n) x h = ap (_∷_ x) (take-replicate m n x (omega arith))
 
 pub blank-is-blank : (s : Settings) → is-blank (blank s) ≡ true
 unfolding blank
@@ -49,3 +54,11 @@ unfolding entries
 entries-at zero i j f d h = absurd (omega arith)
 entries-at (suc n) i zero f d h = ap f (let e : i ≡ i + 0 = omega arith in e)
 entries-at (suc n) i (suc j) f d h = entries-at n (suc i) j f d (omega arith) ∙ ap f (let e : suc i + j ≡ i + suc j = omega arith in e)
+
+pub entries-of : {A : Type 0} (n j : ℕ) (f : ℕ → A) (d : A) → j < n → getD (entries n 0 f) j d ≡ f j
+entries-of n j f d h = entries-at n 0 j f d h ∙ ap f (let e : 0 + j ≡ j = omega arith in e)
+
+pub entries-alike : {A : Type 0} (n i : ℕ) (f g : ℕ → A) → ((j : ℕ) → j < i + n → f j ≡ g j) → entries n i f ≡ entries n i g
+unfolding entries
+entries-alike zero i f g h = refl
+entries-alike (suc n) i f g h = ap₂ _∷_ (h i (omega arith)) (entries-alike n (suc i) f g (λ j l. h j (omega arith)))

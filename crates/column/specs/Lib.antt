@@ -3,5 +3,8 @@ pub mod Frame
 pub mod Record
 pub mod Refusal
 pub mod Exchange
+pub mod Table
 pub mod Call
 pub mod Promise
+pub mod View
+pub mod Entry

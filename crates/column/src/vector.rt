@@ -1,0 +1,18 @@
+// Vectors: values one after the other, w bytes each, from the front of an array on.
+ghost use mathlib.Core.Path.{_≡_};
+ghost use Prim.Native.Nat.{_*_, _+_, _≤_, _<_};
+ghost use lib.ListN.{length, getD};
+ghost use Rattle.code.specs.Array.{Written};
+
+// Value k becomes the value lent.
+pub fn put_value(vector: &mut [u8; 256], k: usize, value: &[u8])
+    requires { ⌜ (k < 32) × (length (now value) ≤ 8) × (length (now vector) ≡ 256) ⌝ }
+    ensures { λ _. ⌜ Written (k * length (now (value .entry))) (length (now (value .entry))) (λ p. getD (now (value .entry)) p 0) (now (vector .entry)) (now (vector .exit)) ⌝ }
+{
+    let at = k * value.len();
+    let mut p = 0;
+    while p < value.len() {
+        vector[at + p] = value[p];
+        p += 1;
+    }
+}
