@@ -23,7 +23,7 @@ unfoldable pub quick-summed : (i highest : ℕ) → List ℕ → ℕ
 quick-summed i k [] = 0
 quick-summed i k (b ∷ bs) = plus (times b (doublings ((120 + i) * k % 255) 1)) (quick-summed i (k - 1) bs)
 
-summed-quick : (i k : ℕ) (bs : List ℕ) → summed (root i) k bs ≡ quick-summed i k bs
+pub summed-quick : (i k : ℕ) (bs : List ℕ) → summed (root i) k bs ≡ quick-summed i k bs
 unfolding summed quick-summed
 summed-quick i k [] = refl
 summed-quick i k (b ∷ bs) = ap₂ plus (ap (times b) (root-power i k)) (summed-quick i (k - 1) bs)

@@ -1,1 +1,2 @@
+pub mod NoneNear
 pub mod Starred

@@ -2,15 +2,19 @@
 use mathlib.Core.Path.{_≡_, refl, _∙_, ap₂}
 use mathlib.Core.Bool.{true}
 use mathlib.Core.List.{List, [], _∷_}
-use Prim.Native.Nat.{ℕ}
+use Prim.Native.Nat.{ℕ, _≤_}
+use native.Mathlib.Omega.{arith}
 use Rattle.field.specs.Field.{plus, xor-from, doubled, times, times-from}
 use Rattle.field.proofs.Power.{doublings, power-doublings}
-use Rattle.code.specs.Settings.{settings, check-count, value-size}
+use Rattle.code.specs.Settings.{settings, settings-refusal, check-count, value-size}
 use Rattle.code.specs.Polynomial.{root, added, scaled, times-factor, generator}
 use Rattle.code.specs.Plane.{byte-list}
-use Rattle.code.specs.Vector.{plane, each-long, are-checks}
+use Rattle.code.specs.Vector.{plane, each-long, is-vector, are-checks, same, differ-values}
+use Rattle.code.specs.Promise.{Repairs}
 use Rattle.code.proofs.Quick.{quick-summed, quick-zero-from, quick-word, quick-planes-from, quick-checks, checks-quick}
-use Rattle.starred_cases.specs.Cases.{product, generator-is, checks-are, Starred-cases, starred, All-hold, Holds, single}
+use Rattle.code.proofs.Vector.{repairs}
+use Rattle.starred_cases.specs.Cases.{product, generator-is, checks-are, repaired-is, Starred-cases, starred, All-hold, Holds, single}
+use Rattle.starred_cases.proofs.NoneNear.{none-near-case}
 
 -- the first two roots, by doublings, and the generator by them
 root-first : root 0 ≡ 225
@@ -38,8 +42,31 @@ checks-case :
 unfolding Holds
 checks-case n t vs cs e = checks-quick (settings n t 1) (single vs) (single cs) ∙ e
 
+-- checks that are those of the repaired vector
+repaired-case :
+    (n t : ℕ) (vs cs us : List ℕ) → settings-refusal (settings n t 1) ≡ 0 → is-vector (settings n t 1) (single vs) ≡ true →
+    is-vector (settings n t 1) (single us) ≡ true → quick-checks (settings n t 1) (single us) (single cs) ≡ true →
+    differ-values (single vs) (single us) ≤ settings n t 1 .t → Holds (repaired-is n t vs cs us)
+unfolding Holds Repairs
+repaired-case n t vs cs us r v u e d =
+    repairs (settings n t 1) (single vs) (single us) (single cs) r v u (checks-quick (settings n t 1) (single us) (single cs) ∙ e) d
+
 pub starred-cases : Starred-cases
 unfolding Starred-cases starred All-hold single times times-from doubled plus xor-from doublings settings check-count value-size quick-checks quick-planes-from
-    quick-word quick-zero-from quick-summed are-checks each-long byte-list plane
-starred-cases =
-    (product-case _ _ _ refl, (generator-case, (checks-case _ _ _ _ refl, (checks-case _ _ _ _ refl, (checks-case _ _ _ _ refl, tt)))))
+    quick-word quick-zero-from quick-summed are-checks each-long byte-list plane settings-refusal is-vector same differ-values
+starred-cases = (
+  product-case _ _ _ refl,
+  (
+    generator-case,
+    (
+      checks-case _ _ _ _ refl,
+      (
+        checks-case _ _ _ _ refl,
+        (
+          checks-case _ _ _ _ refl,
+          (repaired-case _ _ _ _ _ refl refl refl refl (omega arith), (repaired-case _ _ _ _ _ refl refl refl refl (omega arith), (none-near-case, tt))),
+        ),
+      ),
+    ),
+  ),
+)

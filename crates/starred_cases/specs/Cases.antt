@@ -7,6 +7,7 @@ use Rattle.field.specs.Field.{times}
 use Rattle.code.specs.Settings.{settings}
 use Rattle.code.specs.Polynomial.{generator}
 use Rattle.code.specs.Vector.{has-checks}
+use Rattle.code.specs.Repair.{Repaired, No-repair}
 
 -- values of one byte
 unfoldable pub single : List ℕ → List (List ℕ)
@@ -18,11 +19,15 @@ pub data Case : Type 0 where
   product : (a b result : ℕ) → Case
   generator-is : (roots : ℕ) → (coefficients : List ℕ) → Case
   checks-are : (n t : ℕ) → (vector checks : List ℕ) → Case
+  repaired-is : (n t : ℕ) → (vector checks repaired : List ℕ) → Case
+  none-near : (n t : ℕ) → (vector checks : List ℕ) → Case
 
 unfoldable pub Holds : Case → Type 0
 Holds (product a b c) = times a b ≡ c
 Holds (generator-is m g) = generator m ≡ g
 Holds (checks-are n t vs cs) = has-checks (settings n t 1) (single vs) (single cs) ≡ true
+Holds (repaired-is n t vs cs us) = Repaired (settings n t 1) (single vs) (single cs) (single us)
+Holds (none-near n t vs cs) = No-repair (settings n t 1) (single vs) (single cs)
 
 unfoldable pub starred : List Case
 starred =
@@ -31,6 +36,9 @@ starred =
     ∷ checks-are 4 1 (241 ∷ 86 ∷ 35 ∷ 35 ∷ []) (39 ∷ 78 ∷ [])
     ∷ checks-are 4 1 (241 ∷ 86 ∷ 35 ∷ 40 ∷ []) (82 ∷ 30 ∷ [])
     ∷ checks-are 4 1 (241 ∷ 86 ∷ 35 ∷ 0 ∷ []) (8 ∷ 182 ∷ [])
+    ∷ repaired-is 4 1 (241 ∷ 86 ∷ 35 ∷ 35 ∷ []) (0 ∷ 136 ∷ []) (241 ∷ 86 ∷ 129 ∷ 35 ∷ [])
+    ∷ repaired-is 4 1 (241 ∷ 86 ∷ 35 ∷ 35 ∷ []) (22 ∷ 61 ∷ []) (241 ∷ 49 ∷ 35 ∷ 35 ∷ [])
+    ∷ none-near 4 1 (241 ∷ 86 ∷ 35 ∷ 35 ∷ []) (22 ∷ 77 ∷ [])
     ∷ []
 
 unfoldable pub All-hold : List Case → Type 0
