@@ -6,16 +6,18 @@ use mathlib.Core.List.{[], _∷_}
 use Prim.Native.Nat.{ℕ, _+_, _*_, _-_, _≤_, _<_}
 use native.Mathlib.Omega.{arith}
 use lib.Dec.{ltb, leb, eqb}
-use lib.ListN.{length, replicate}
+use lib.ListN.{length, take, replicate}
+use lib.Seq.{length-take-le}
 use borrow.Author.Tests.{le-ltb, le-leb, lt-leb, eq-eqb, eqb-true}
-use Rattle.code.specs.Settings.{Settings, value-size}
+use Rattle.code.specs.Settings.{Settings, settings, value-size}
 use Rattle.code.specs.Vector.{same}
 use Rattle.code.proofs.Bytes.{and-split}
 use Rattle.code.proofs.Vector.{same-equal}
 use Rattle.column.specs.Value.{Value, Rows, blank, is-blank, bytes-before}
 use Rattle.column.specs.Record.{Held, held-as}
-use Rattle.column.specs.Exchange.{found, better, most, agreed-at, held-of, held-at}
-use Rattle.column.specs.Table.{better-by, next-best}
+use Rattle.column.specs.Exchange.{found, better, agreed-at, held-of, held-at}
+use Rattle.column.specs.Table.{better-by, next-best, Times-found, Most-found}
+use Rattle.column.specs.declared.table.Counted.{Counted}
 use Rattle.column.proofs.Order.{before-irrefl}
 
 module _ (j : ℕ) (rows : Rows) where
@@ -58,52 +60,56 @@ blank-of [] e = refl
 blank-of (x ∷ v) e = let both = and-split (eqb x 0) (is-blank v) e in ap₂ _∷_ (eqb-true x 0 (both .0)) (blank-of v (both .1))
 
 -- what a column's most often found value, and how often it is found, say
-module _ (s : Settings) (rows : Rows) (j : ℕ) (v : Value) (c : ℕ) (is-most : v ≡ most s j rows) (size : length v ≡ value-size s)
-    (counted : is-blank v ≡ false → c ≡ found j v rows) where
-  agreed-by : agreed-at s rows j ≡ cond (leb (s .n - s .t) c) v (blank s)
-  unfolding agreed-at blank
-  agreed-by = rw (← is-most) (go (is-blank v) refl)
+module _ (n t w : ℕ) (rows : Rows) (j : ℕ) (c : Counted) (m : Most-found n w j rows c) (long : w ≤ length (c .value)) where
+  abbrev s : Settings
+  s = settings n t w
+
+  abbrev v : Value
+  v = take w (c .value)
+
+  agreed-by : agreed-at s rows j ≡ cond (leb (n - t) (c .times)) v (blank s)
+  unfolding agreed-at blank settings value-size Times-found
+  agreed-by = rw (← m .value t) (go (is-blank v) refl)
     where
-      either : (p q : Bool) → v ≡ replicate (value-size s) 0 → cond p v (replicate (value-size s) 0) ≡ cond q v (replicate (value-size s) 0)
+      either : (p q : Bool) → v ≡ replicate w 0 → cond p v (replicate w 0) ≡ cond q v (replicate w 0)
       either true true e = refl
       either true false e = e
       either false true e = sym e
       either false false e = refl
 
-      go : (q : Bool) → is-blank v ≡ q →
-          cond (leb (s .n - s .t) (found j v rows)) v (replicate (value-size s) 0) ≡ cond (leb (s .n - s .t) c) v (replicate (value-size s) 0)
-      go true e = either (leb (s .n - s .t) (found j v rows)) (leb (s .n - s .t) c) (blank-of v e ∙ ap (λ (k : ℕ). replicate k 0) size)
-      go false e = rw (counted e)
+      go : (q : Bool) → is-blank v ≡ q → cond (leb (n - t) (found j v rows)) v (replicate w 0) ≡ cond (leb (n - t) (c .times)) v (replicate w 0)
+      go true e = either (leb (n - t) (found j v rows)) (leb (n - t) (c .times)) (blank-of v e ∙ ap (λ (k : ℕ). replicate k 0) (length-take-le w (c .value) long))
+      go false e = rw (m .times e)
 
-  pub agreed-often : s .n - s .t ≤ c → agreed-at s rows j ≡ v
-  agreed-often h = agreed-by ∙ rw (le-leb (s .n - s .t) c h)
+  pub agreed-often : n - t ≤ c .times → agreed-at s rows j ≡ v
+  agreed-often h = agreed-by ∙ rw (le-leb (n - t) (c .times) h)
 
-  pub agreed-seldom : c < s .n - s .t → agreed-at s rows j ≡ blank s
-  agreed-seldom h = agreed-by ∙ rw (lt-leb (s .n - s .t) c h)
+  pub agreed-seldom : c .times < n - t → agreed-at s rows j ≡ blank s
+  agreed-seldom h = agreed-by ∙ rw (lt-leb (n - t) (c .times) h)
 
-  held-by : held-at s rows j ≡ held-of s v c
-  unfolding held-at held-of
-  held-by = rw (← is-most) (go (is-blank v) refl)
+  held-by : held-at s rows j ≡ held-of s v (c .times)
+  unfolding held-at held-of settings Times-found
+  held-by = rw (← m .value t) (go (is-blank v) refl)
     where
       rated : ℕ → Held
-      rated k = cond (leb (2 * s .t + 1) k) (held-as v 2) (cond (leb (s .t + 1) k) (held-as v 1) (held-as (blank s) 0))
+      rated k = cond (leb (2 * t + 1) k) (held-as v 2) (cond (leb (t + 1) k) (held-as v 1) (held-as (blank s) 0))
 
-      go : (q : Bool) → is-blank v ≡ q → cond q (held-as (blank s) 0) (rated (found j v rows)) ≡ cond q (held-as (blank s) 0) (rated c)
+      go : (q : Bool) → is-blank v ≡ q → cond q (held-as (blank s) 0) (rated (found j v rows)) ≡ cond q (held-as (blank s) 0) (rated (c .times))
       go true e = refl
-      go false e = ap rated (sym (counted e))
+      go false e = ap rated (sym (m .times e))
 
   pub held-blank : is-blank v ≡ true → held-at s rows j ≡ held-as (blank s) 0
   unfolding held-of
   held-blank e = held-by ∙ rw e
 
-  pub held-often : is-blank v ≡ false → 2 * s .t < c → held-at s rows j ≡ held-as v 2
-  unfolding held-of
-  held-often e h = held-by ∙ rw (e, le-leb (2 * s .t + 1) c (omega arith))
+  pub held-often : is-blank v ≡ false → 2 * t < c .times → held-at s rows j ≡ held-as v 2
+  unfolding held-of settings
+  held-often e h = held-by ∙ rw (e, le-leb (2 * t + 1) (c .times) (omega arith))
 
-  pub held-some : is-blank v ≡ false → c ≤ 2 * s .t → s .t < c → held-at s rows j ≡ held-as v 1
-  unfolding held-of
-  held-some e h l = held-by ∙ rw (e, lt-leb (2 * s .t + 1) c (omega arith), le-leb (s .t + 1) c (omega arith))
+  pub held-some : is-blank v ≡ false → c .times ≤ 2 * t → t < c .times → held-at s rows j ≡ held-as v 1
+  unfolding held-of settings
+  held-some e h l = held-by ∙ rw (e, lt-leb (2 * t + 1) (c .times) (omega arith), le-leb (t + 1) (c .times) (omega arith))
 
-  pub held-seldom : is-blank v ≡ false → c ≤ s .t → held-at s rows j ≡ held-as (blank s) 0
-  unfolding held-of
-  held-seldom e h = held-by ∙ rw (e, lt-leb (2 * s .t + 1) c (omega arith), lt-leb (s .t + 1) c (omega arith))
+  pub held-seldom : is-blank v ≡ false → c .times ≤ t → held-at s rows j ≡ held-as (blank s) 0
+  unfolding held-of settings
+  held-seldom e h = held-by ∙ rw (e, lt-leb (2 * t + 1) (c .times) (omega arith), lt-leb (t + 1) (c .times) (omega arith))

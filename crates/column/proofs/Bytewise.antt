@@ -10,7 +10,7 @@ use lib.ListN.{length, getD, take, drop}
 use lib.Seq.{drop-cons, drop-length, getD-take, length-take-le}
 use borrow.Author.Tests.{eq-eqb, ne-eqb, lt-ltb, le-ltb}
 use Rattle.code.specs.Vector.{same}
-use Rattle.column.specs.Value.{is-blank, bytes-before}
+use Rattle.column.specs.Value.{bytes-before}
 
 -- what is left of a value of w bytes in front of an array, from byte p on
 abbrev pub left : (w : ℕ) → List ℕ → (p : ℕ) → List ℕ
@@ -24,19 +24,6 @@ module _ (w : ℕ) (v : List ℕ) (fits : w ≤ length v) where
 
   pub left-none : (p : ℕ) → p ≡ w → left w v p ≡ []
   left-none p e = ap (λ (k : ℕ). drop k (take w v)) (e ∙ sym (length-take-le w v fits)) ∙ drop-length (take w v)
-
-  -- blank
-  pub blank-on : (p : ℕ) → p < w → getD v p 0 ≡ 0 → is-blank (left w v p) ≡ is-blank (left w v (p + 1))
-  unfolding is-blank
-  blank-on p h e = rw (left-cons p h, e)
-
-  pub blank-not : (p : ℕ) → p < w → (getD v p 0 ≡ 0 → ⊥) → is-blank (left w v p) ≡ false
-  unfolding is-blank
-  blank-not p h e = rw (left-cons p h, ne-eqb (getD v p 0) 0 e)
-
-  pub blank-end : (p : ℕ) → p ≡ w → is-blank (left w v p) ≡ true
-  unfolding is-blank
-  blank-end p e = rw (left-none p e)
 
 module _ (w : ℕ) (a b : List ℕ) (a-fits : w ≤ length a) (b-fits : w ≤ length b) where
   -- the same

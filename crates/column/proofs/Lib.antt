@@ -1,11 +1,7 @@
 pub mod Bool
 pub mod Value
-pub mod Bytewise
-pub mod Placed
-pub mod Planes
 pub mod Order
 pub mod Count
-pub mod Best
 pub mod Most
 pub mod Grade
 pub mod Agreement
@@ -16,6 +12,12 @@ pub mod Lines
 pub mod Size
 pub mod Front
 pub mod Sent
+pub mod Bytewise
+pub mod Placed
+pub mod Planes
+pub mod Best
+pub mod SenderRow
+pub mod AfterRound
 pub mod Rows
 pub mod Step
 pub mod Proper
@@ -24,6 +26,7 @@ pub mod Goods
 pub mod Handed
 pub mod Rounds
 pub mod Gradecast
+pub mod Built
 pub mod Cases
 pub mod Quick
 pub mod Listing

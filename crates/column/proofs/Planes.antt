@@ -6,7 +6,7 @@ use Prim.Native.Nat.{ℕ, _+_, _*_, _≤_, _<_}
 use native.Mathlib.Omega.{arith}
 use native.Mathlib.Numerals.{add-one}
 use lib.Dec.{eqb}
-use lib.ListN.{length, getD, take, drop, set, length-set}
+use lib.ListN.{length, getD, take, drop, set, replicate, length-set, getD-replicate}
 use lib.Seq.{drop-cons, drop-length, getD-take, length-take-le, ext-getD, getD-set-same, getD-set-other}
 use borrow.Author.Count.{below-more}
 use borrow.Author.Tests.{eqb-true, eqb-false}
@@ -124,3 +124,7 @@ module _ (i n w : ℕ) (row : List ℕ) (x : Planes) where
     pub row-put-others : (j : ℕ) → (j ≡ i → ⊥) → row-in n w now j ≡ row-in n w x j
     unfolding row-in value-in
     row-put-others j d = entries-alike n 0 _ _ (λ k l. entries-alike w 0 _ _ (λ p m. a .kept p j k d))
+
+-- a table as it is made
+pub shape-zeros : Shaped (replicate 8 (replicate 32 (replicate 32 0)))
+shape-zeros = record { planes = refl; rows = λ p h. ap length (getD-replicate {A = List (List ℕ)} 8 p (replicate 32 (replicate 32 0)) [] h) }

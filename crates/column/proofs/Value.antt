@@ -62,3 +62,8 @@ pub entries-alike : {A : Type 0} (n i : ℕ) (f g : ℕ → A) → ((j : ℕ) �
 unfolding entries
 entries-alike zero i f g h = refl
 entries-alike (suc n) i f g h = ap₂ _∷_ (h i (omega arith)) (entries-alike n (suc i) f g (λ j l. h j (omega arith)))
+
+pub entries-next : {A : Type 0} (n i : ℕ) (f : ℕ → A) → entries n (i + 1) f ≡ entries n i (λ j. f (j + 1))
+unfolding entries
+entries-next zero i f = refl
+entries-next (suc n) i f = ap (_∷_ (f (i + 1))) (ap (λ (k : ℕ). entries n k f) (let e : suc (i + 1) ≡ suc i + 1 = omega arith in e) ∙ entries-next n (suc i) f)

@@ -3,8 +3,11 @@ pub mod Frame
 pub mod Record
 pub mod Refusal
 pub mod Exchange
-pub mod Table
 pub mod Call
 pub mod Promise
 pub mod View
 pub mod Entry
+pub mod Table
+pub mod Senders
+pub mod Closing
+pub mod Built

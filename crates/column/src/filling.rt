@@ -1,10 +1,8 @@
 // Rows put into a table.
-ghost use mathlib.Core.Path.{_≡_};
-ghost use Prim.Native.Nat.{ℕ, _*_, _+_, _≤_, _<_};
+ghost use Prim.Native.Nat.{_*_, _+_, _≤_, _<_};
 ghost use lib.ListN.{length, getD};
-ghost use Rattle.code.specs.Vector.{cut};
 ghost use Rattle.code.specs.Array.{Filled};
-ghost use Rattle.column.specs.Table.{byte-in, Shaped, Row-put};
+ghost use Rattle.column.specs.Table.{Shaped, Row-put};
 use crate::table::Table;
 
 // Byte p of each value of a row.

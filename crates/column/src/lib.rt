@@ -1,9 +1,11 @@
 // One column's part in the exchange: its record and the calls on it.
+mod closing;
 mod filling;
 mod frames;
 mod lent;
 pub mod record;
 mod refusals;
+mod senders;
 mod sending;
 mod table;
 mod taking;
@@ -11,7 +13,7 @@ mod tally;
 mod values;
 mod vector;
 
-ghost use Rattle.column.specs.Entry.{Open-says, Take-says, Send-says, Result-says};
+ghost use Rattle.column.specs.Entry.{Open-says, Take-says, Send-says, Close-says, Result-says};
 use crate::record::Column;
 use crate::record::Holdings;
 use crate::record::Outcome;
@@ -91,6 +93,24 @@ pub fn send(column: Column, buffer: &mut [u8]) -> u32
     sending::put_header(column.round, column.number, column.run, buffer);
     sending::put_operand(column, &mut buffer[4..size]);
     0
+}
+
+// Closes the round: 0, or the refusal 1 to 4, 6 or 7.
+pub fn close(column: Column) -> Outcome
+    ensures { λ r. ⌜ Close-says column (r .answer) (r .column) ⌝ }
+{
+    let refusal = refusals::close_refusal(column);
+    if refusal != 0 {
+        return Outcome {
+            answer: refusal,
+            column,
+        };
+    }
+    let next = closing::closed(column);
+    Outcome {
+        answer: 0,
+        column: next,
+    }
 }
 
 // The values and confidences that the column ended with: 0, or the refusal 1 to 4, 6 or 17.

@@ -25,7 +25,7 @@ pub fn put_header(round: u32, number: u32, run: u16, buffer: &mut [u8])
 }
 
 // The check values of a vector that stands in the front of an array.
-fn put_checks(n: u32, t: u32, w: u32, values: &[u8], operand: &mut [u8])
+pub fn put_checks(n: u32, t: u32, w: u32, values: &[u8], operand: &mut [u8])
     requires { ⌜ (settings-refusal (settings n t w) ≡ 0) × (length (now values) ≡ 256) × (length (now operand) ≡ check-count (settings n t w) * value-size (settings n t w)) ⌝ }
     ensures { λ _. ⌜ has-checks (settings n t w) (values-in (settings n t w) n (now (values .entry))) (checks-in (settings n t w) (now (operand .exit))) ≡ true ⌝ }
 {

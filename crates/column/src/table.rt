@@ -1,12 +1,10 @@
 // Tables of rows: plane p has byte p of every value, by rows and columns, so that byte p of the value in row i, column k
 // stands at [p][i][k].
 ghost use mathlib.Core.Path.{_≡_};
-ghost use mathlib.Core.Bool.{true, false, cond, not};
-ghost use Prim.Native.Nat.{ℕ, _-_, _≤_, _<_};
-ghost use lib.ListN.{take, getD};
-ghost use Rattle.code.specs.Settings.{settings};
-ghost use Rattle.column.specs.Value.{is-blank};
-ghost use Rattle.column.specs.Exchange.{found, better, most, agreed-at, held-at};
+ghost use mathlib.Core.Bool.{true, false, cond};
+ghost use Prim.Native.Nat.{_≤_, _<_};
+ghost use lib.ListN.{take};
+ghost use Rattle.column.specs.Exchange.{found};
 ghost use Rattle.column.specs.Table.{value-in, rows-in, better-by, next-best, Times-found, Most-found};
 use crate::values;
 

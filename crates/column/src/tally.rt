@@ -1,7 +1,7 @@
 // What a table says of each column: Y, and values with their confidences.
 ghost use mathlib.Core.Path.{_≡_};
-ghost use Prim.Native.Nat.{ℕ, _*_, _+_, _≤_, _<_};
-ghost use lib.ListN.{length, take};
+ghost use Prim.Native.Nat.{_*_, _≤_, _<_};
+ghost use lib.ListN.{take};
 ghost use Rattle.code.specs.Settings.{settings};
 ghost use Rattle.code.specs.Entry.{values-in};
 ghost use Rattle.column.specs.Record.{held-as};

@@ -1,22 +1,16 @@
-// Values of up to eight bytes, side by side in an array: w says how many of them count.
+// Values of up to eight bytes, from the front of an array on: w says how many of them count.
 ghost use mathlib.Core.Path.{_≡_};
 ghost use Prim.Native.Nat.{_≤_};
 ghost use lib.ListN.{take};
 ghost use Rattle.code.specs.Vector.{same};
 ghost use Rattle.column.specs.Value.{is-blank, bytes-before};
+use crate::lent;
 
 pub fn is_blank(value: [u8; 8], w: usize) -> bool
     requires { ⌜ w ≤ 8 ⌝ }
     ensures { λ r. ⌜ r ≡ is-blank (take w value) ⌝ }
 {
-    let mut p = 0;
-    while p < w {
-        if value[p] != 0 {
-            return false;
-        }
-        p += 1;
-    }
-    true
+    lent::is_blank(&value[..w])
 }
 
 pub fn is_same(a: [u8; 8], b: [u8; 8], w: usize) -> bool

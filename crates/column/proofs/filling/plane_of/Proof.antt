@@ -1,8 +1,7 @@
 -- `plane_of` meets its contract: a byte of each value. Assumes nothing.
 use mathlib.Core.Path.{_≡_, refl}
-use Prim.Native.Nat.{ℕ, _+_, _*_, _-_, _≤_}
+use Prim.Native.Nat.{_+_, _*_, _-_, _≤_}
 use native.Mathlib.Omega.{arith}
-use denote.Ref.{now}
 use lib.ListN.{getD}
 use Rattle.code.specs.Array.{Filled}
 use Rattle.code.proofs.Cut.{value-fits, values-fit}

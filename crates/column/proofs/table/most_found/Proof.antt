@@ -1,6 +1,5 @@
 -- `most_found` meets its contract: from the best so far on, the rows that are left lead to the column's best. Assumes nothing.
-use mathlib.Core.Path.{_≡_, refl, sym, _∙_, ap}
-use mathlib.Core.Bool.{true, false}
+use mathlib.Core.Path.{_≡_, sym, _∙_, ap}
 use Prim.Native.Nat.{ℕ, _-_, _≤_}
 use native.Mathlib.Omega.{arith}
 use denote.Ref.{now}
@@ -8,7 +7,7 @@ use lib.ListN.{take, drop, replicate}
 use Rattle.code.specs.Settings.{settings, value-size}
 use Rattle.column.specs.Value.{blank, is-blank}
 use Rattle.column.specs.Exchange.{most, most-from}
-use Rattle.column.specs.Table.{rows-in, next-best, Times-found, Most-found}
+use Rattle.column.specs.Table.{rows-in, next-best, Times-found}
 use Rattle.column.proofs.Bool.{true-not-false}
 use Rattle.column.proofs.Value.{take-replicate, zeros-blank}
 use Rattle.column.proofs.Planes.{rows-none, most-on}

@@ -1,12 +1,11 @@
 -- `next_best` meets its contract: what is the best already, or blank, changes nothing, and another value is counted.
 -- Assumes nothing.
-use mathlib.Core.Path.{_≡_, refl, sym, _∙_, ap}
+use mathlib.Core.Path.{_≡_, sym, _∙_}
 use mathlib.Core.Bool.{Bool, true, false, cond}
-use native.Mathlib.Omega.{arith}
 use denote.Ref.{now}
 use lib.ListN.{take}
 use borrow.Author.Needs.{needs}
-use Rattle.column.specs.Table.{rows-in, value-in, better-by, next-best, Times-found}
+use Rattle.column.specs.Table.{rows-in, value-in, next-best, Times-found}
 use Rattle.column.proofs.Best.{next-same, next-blank, better-counted, next-by}
 use Rattle.column.proofs.table.next_best.Statement.{statement}
 use Rattle.column.proofs.table.next_best.Tie as tie

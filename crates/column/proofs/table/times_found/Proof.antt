@@ -1,11 +1,10 @@
 -- `times_found` meets its contract: going down the rows, the count is how often the value is found in the rows passed.
 -- Assumes nothing.
-use mathlib.Core.Path.{_≡_, refl, sym, _∙_, ap}
-use Prim.Native.Nat.{ℕ, _+_, _-_, _≤_}
+use mathlib.Core.Path.{_≡_, refl}
+use Prim.Native.Nat.{_+_, _-_, _≤_}
 use native.Mathlib.Omega.{arith}
 use denote.Ref.{now}
 use lib.ListN.{take, drop}
-use Rattle.code.specs.Vector.{same}
 use Rattle.column.specs.Exchange.{found}
 use Rattle.column.specs.Table.{rows-in}
 use Rattle.column.proofs.Planes.{rows-none, found-on}

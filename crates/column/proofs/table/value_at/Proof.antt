@@ -1,8 +1,7 @@
 -- `value_at` meets its contract: a byte of each plane. Assumes nothing.
-use mathlib.Core.Path.{_≡_, refl, sym, _∙_, ap}
-use Prim.Native.Nat.{ℕ, _-_, _≤_}
+use mathlib.Core.Path.{_≡_, refl}
+use Prim.Native.Nat.{_-_, _≤_}
 use native.Mathlib.Omega.{arith}
-use lib.ListN.{take}
 use Rattle.code.specs.Array.{Filled}
 use Rattle.code.proofs.Written.{filled-none, filled-more}
 use Rattle.column.specs.Table.{byte-in, value-in}

@@ -1,14 +1,11 @@
 -- `agreed_at` meets its contract: Y at a column goes by its most often found value and how often that is found. Assumes nothing.
-use mathlib.Core.Path.{_≡_, refl, sym, _∙_, ap}
-use Prim.Native.Nat.{ℕ, _≤_}
+use mathlib.Core.Path.{_≡_, sym, _∙_}
+use Prim.Native.Nat.{ℕ}
 use native.Mathlib.Omega.{arith}
-use denote.Ref.{now}
-use lib.ListN.{length, take, replicate}
-use lib.Seq.{length-take-le}
+use lib.ListN.{length}
 use borrow.Author.Needs.{needs}
 use Rattle.code.specs.Settings.{settings, value-size}
 use Rattle.column.specs.Value.{blank}
-use Rattle.column.specs.Table.{rows-in, Times-found}
 use Rattle.column.proofs.Value.{take-replicate}
 use Rattle.column.proofs.Best.{agreed-often, agreed-seldom}
 use Rattle.column.proofs.tally.agreed_at.Statement.{statement}
@@ -21,23 +18,18 @@ sub-if1 : tie.Need-sub-if1
 sub-if1 c = search needs
 
 returns : tie.Need-returns
-unfolding settings value-size blank Times-found
+unfolding settings value-size blank
 returns c =
     let m = c .before .before .most-found in
-    let a = c .before .before .before .args in
     let long : length (m .result .value) ≡ 8 = search needs in
-    take-replicate {A = ℕ} (a .w) 8 0 (omega arith)
-    ∙ sym (agreed-seldom (settings (a .n) (a .t) (a .w)) (rows-in (a .n) (a .w) (now (a .table))) (a .k) (take (a .w) (m .result .value)) (m .result .times) (m .ensures .value (a .t))
-    (length-take-le (a .w) (m .result .value) (omega arith)) (m .ensures .times) (c .if1 .taken))
+    take-replicate {A = ℕ} (c .before .before .before .args .w) 8 0 (omega arith)
+    ∙ sym (agreed-seldom _ _ _ _ _ (m .result) (m .ensures) (omega arith) (c .if1 .taken))
 
 returns-2 : tie.Need-returns-2
-unfolding settings value-size Times-found
 returns-2 c =
     let m = c .before .before .before .most-found in
-    let a = c .before .before .before .before .args in
     let long : length (m .result .value) ≡ 8 = search needs in
-    sym (agreed-often (settings (a .n) (a .t) (a .w)) (rows-in (a .n) (a .w) (now (a .table))) (a .k) (take (a .w) (m .result .value)) (m .result .times) (m .ensures .value (a .t))
-    (length-take-le (a .w) (m .result .value) (omega arith)) (m .ensures .times) (c .before .if1 .left))
+    sym (agreed-often _ _ _ _ _ (m .result) (m .ensures) (omega arith) (c .before .if1 .left))
 
 pub agreed-at-spec : {M : Type 1} → statement M
 agreed-at-spec = tie.close (tie.spec most-found-requires sub-if1 returns returns-2)

@@ -1,17 +1,13 @@
 -- `held_at` meets its contract: value and confidence at a column go by its most often found value and how often that is found.
 -- Assumes nothing.
-use mathlib.Core.Path.{_≡_, refl, sym, _∙_, ap}
-use mathlib.Core.Bool.{true, false}
-use Prim.Native.Nat.{ℕ, _≤_}
+use mathlib.Core.Path.{_≡_, sym, _∙_, ap}
+use Prim.Native.Nat.{ℕ}
 use native.Mathlib.Omega.{arith}
-use denote.Ref.{now}
-use lib.ListN.{length, take, replicate}
-use lib.Seq.{length-take-le}
+use lib.ListN.{length}
 use borrow.Author.Needs.{needs}
 use Rattle.code.specs.Settings.{settings, value-size}
 use Rattle.column.specs.Value.{Value, blank}
 use Rattle.column.specs.Record.{held-as}
-use Rattle.column.specs.Table.{rows-in, Times-found}
 use Rattle.column.proofs.Value.{take-replicate}
 use Rattle.column.proofs.Best.{held-blank, held-often, held-some, held-seldom}
 use Rattle.column.proofs.tally.held_at.Statement.{statement}
@@ -24,48 +20,39 @@ is-blank-requires : tie.Need-is-blank-requires
 is-blank-requires c κs = search needs
 
 returns : tie.Need-returns
-unfolding settings value-size blank Times-found
+unfolding settings value-size blank
 returns c =
     let m = c .before .before .before .most-found in
-    let a = c .before .before .before .before .args in
     let long : length (m .result .value) ≡ 8 = search needs in
-    ap (λ (v : Value). held-as v 0) (take-replicate {A = ℕ} (a .w) 8 0 (omega arith))
-    ∙ sym (held-blank (settings (a .n) (a .t) (a .w)) (rows-in (a .n) (a .w) (now (a .table))) (a .k) (take (a .w) (m .result .value)) (m .result .times) (m .ensures .value (a .t))
-    (length-take-le (a .w) (m .result .value) (omega arith)) (m .ensures .times) (sym (c .before .is-blank .ensures) ∙ c .if1 .taken))
+    ap (λ (v : Value). held-as v 0) (take-replicate {A = ℕ} (c .before .before .before .before .args .w) 8 0 (omega arith))
+    ∙ sym (held-blank _ _ _ _ _ (m .result) (m .ensures) (omega arith) (sym (c .before .is-blank .ensures) ∙ c .if1 .taken))
 
 mul-if2 : tie.Need-mul-if2
 mul-if2 c = search needs
 
 returns-2 : tie.Need-returns-2
-unfolding settings value-size Times-found
 returns-2 c =
     let d = c .before .before in
     let m = d .before .before .before .most-found in
-    let a = d .before .before .before .before .args in
     let long : length (m .result .value) ≡ 8 = search needs in
-    sym (held-often (settings (a .n) (a .t) (a .w)) (rows-in (a .n) (a .w) (now (a .table))) (a .k) (take (a .w) (m .result .value)) (m .result .times) (m .ensures .value (a .t))
-    (length-take-le (a .w) (m .result .value) (omega arith)) (m .ensures .times) (sym (d .before .is-blank .ensures) ∙ d .if1 .left) (c .if2 .taken))
+    sym (held-often _ _ _ _ _ (m .result) (m .ensures) (omega arith) (sym (d .before .is-blank .ensures) ∙ d .if1 .left) (c .if2 .taken))
 
 returns-3 : tie.Need-returns-3
-unfolding settings value-size Times-found
 returns-3 c =
     let d = c .before .before .before .before in
     let m = d .before .before .before .most-found in
-    let a = d .before .before .before .before .args in
     let long : length (m .result .value) ≡ 8 = search needs in
-    sym (held-some (settings (a .n) (a .t) (a .w)) (rows-in (a .n) (a .w) (now (a .table))) (a .k) (take (a .w) (m .result .value)) (m .result .times) (m .ensures .value (a .t))
-    (length-take-le (a .w) (m .result .value) (omega arith)) (m .ensures .times) (sym (d .before .is-blank .ensures) ∙ d .if1 .left) (c .before .before .if2 .left) (c .if3 .taken))
+    sym
+    (held-some _ _ _ _ _ (m .result) (m .ensures) (omega arith) (sym (d .before .is-blank .ensures) ∙ d .if1 .left) (c .before .before .if2 .left) (c .if3 .taken))
 
 returns-4 : tie.Need-returns-4
-unfolding settings value-size blank Times-found
+unfolding settings value-size blank
 returns-4 c =
     let d = c .before .before .before .before in
     let m = d .before .before .before .most-found in
-    let a = d .before .before .before .before .args in
     let long : length (m .result .value) ≡ 8 = search needs in
-    ap (λ (v : Value). held-as v 0) (take-replicate {A = ℕ} (a .w) 8 0 (omega arith))
-    ∙ sym (held-seldom (settings (a .n) (a .t) (a .w)) (rows-in (a .n) (a .w) (now (a .table))) (a .k) (take (a .w) (m .result .value)) (m .result .times) (m .ensures .value (a .t))
-    (length-take-le (a .w) (m .result .value) (omega arith)) (m .ensures .times) (sym (d .before .is-blank .ensures) ∙ d .if1 .left) (c .if3 .left))
+    ap (λ (v : Value). held-as v 0) (take-replicate {A = ℕ} (d .before .before .before .before .args .w) 8 0 (omega arith))
+    ∙ sym (held-seldom _ _ _ _ _ (m .result) (m .ensures) (omega arith) (sym (d .before .is-blank .ensures) ∙ d .if1 .left) (c .if3 .left))
 
 pub held-at-spec : {M : Type 1} → statement M
 held-at-spec =

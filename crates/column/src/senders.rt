@@ -1,0 +1,92 @@
+// The table of a round: for each sender the own vector, repaired by the checks that came in its frame.
+ghost use mathlib.Core.Path.{_≡_};
+ghost use mathlib.Core.Bool.{false};
+ghost use Rattle.code.specs.Settings.{settings, settings-refusal};
+ghost use Rattle.code.specs.Entry.{values-in};
+ghost use Rattle.column.specs.Senders.{coded-settings, coded-vector, Coded-right, Slot-row, Slot-rows};
+use crate::filling;
+use crate::record::Slot;
+use crate::sending;
+use crate::table::Table;
+
+// A vector and its check values, both from the front of their array on.
+pub struct Coded {
+    pub n: u32,
+    pub t: u32,
+    pub w: u32,
+    pub vector: [u8; 256],
+    pub checks: [u8; 160],
+}
+
+pub fn with_checks(n: u32, t: u32, w: u32, vector: [u8; 256]) -> Coded
+    requires { ⌜ settings-refusal (settings n t w) ≡ 0 ⌝ }
+    ensures { λ r. ⌜ Coded-right r × (coded-settings r ≡ settings n t w) × (coded-vector r ≡ values-in (settings n t w) n vector) ⌝ }
+{
+    let mut checks = [0u8; 160];
+    let end = (2 * t * w) as usize;
+    sending::put_checks(n, t, w, &vector, &mut checks[..end]);
+    Coded {
+        n,
+        t,
+        w,
+        vector,
+        checks,
+    }
+}
+
+// The row of a sender: a missing frame gives blanks, and so does "none", which leaves the row as it was.
+fn repaired(own: Coded, slot: Slot) -> [u8; 256]
+    requires { ⌜ Coded-right own ⌝ }
+    ensures { λ r. ⌜ Slot-row (coded-settings own) (coded-vector own) false slot (values-in (coded-settings own) (own .n) r) ⌝ }
+{
+    let mut row = [0u8; 256];
+    if slot.taken == 0 {
+        return row;
+    }
+    let size = (own.n * own.w) as usize;
+    let count = (2 * own.t * own.w) as usize;
+    let end = 4 + count;
+    let vector = own.vector;
+    let own_checks = own.checks;
+    let frame = slot.bytes;
+    repair::repair_by(
+        own.n,
+        own.t,
+        own.w,
+        &vector[..size],
+        &own_checks[..count],
+        &frame[4..end],
+        &mut row[..size],
+    );
+    row
+}
+
+// The row of a slot, which may be the column's own.
+fn slot_row(own: Coded, mine: bool, slot: Slot) -> [u8; 256]
+    requires { ⌜ Coded-right own ⌝ }
+    ensures { λ r. ⌜ Slot-row (coded-settings own) (coded-vector own) mine slot (values-in (coded-settings own) (own .n) r) ⌝ }
+{
+    if mine {
+        let vector = own.vector;
+        return vector;
+    }
+    repaired(own, slot)
+}
+
+// The table of a column with this number.
+pub fn table_of(own: Coded, number: usize, slots: [Slot; 32]) -> Table
+    requires { ⌜ Coded-right own ⌝ }
+    ensures { λ r. ⌜ Slot-rows (coded-settings own) (coded-vector own) number slots r ⌝ }
+{
+    let n = own.n as usize;
+    let w = own.w as usize;
+    let mut table = [[[0u8; 32]; 32]; 8];
+    let mut i = 0;
+    while i < n {
+        let slot = slots[i];
+        let row = slot_row(own, i + 1 == number, slot);
+        filling::put_row(&mut table, i, &row, n, w);
+        i += 1;
+    }
+    table
+}
