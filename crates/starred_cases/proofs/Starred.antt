@@ -13,7 +13,10 @@ use Rattle.code.specs.Vector.{plane, each-long, is-vector, are-checks, same, di
 use Rattle.code.specs.Promise.{Repairs}
 use Rattle.code.proofs.Quick.{quick-summed, quick-zero-from, quick-word, quick-planes-from, quick-checks, checks-quick}
 use Rattle.code.proofs.Vector.{repairs}
-use Rattle.starred_cases.specs.Cases.{product, generator-is, checks-are, repaired-is, Starred-cases, starred, All-hold, Holds, single}
+use Rattle.column.specs.Promise.{holds}
+use Rattle.column.proofs.Cases.{three-refused, four-opens, alone-holds}
+use Rattle.column.specs.Value.{is-blank}
+use Rattle.starred_cases.specs.Cases.{product, generator-is, checks-are, repaired-is, opening, alone-ends, Starred-cases, starred, All-hold, Holds, single}
 use Rattle.starred_cases.proofs.NoneNear.{none-near-case}
 
 -- the first two roots, by doublings, and the generator by them
@@ -51,6 +54,18 @@ unfolding Holds Repairs
 repaired-case n t vs cs us r v u e d =
     repairs (settings n t 1) (single vs) (single us) (single cs) r v u (checks-quick (settings n t 1) (single us) (single cs) ∙ e) d
 
+opens-case : Holds (opening 4 1 1 (7 ∷ []) 0)
+unfolding Holds is-blank
+opens-case = four-opens 1 1 (7 ∷ []) (omega arith) (omega arith) (omega arith) (omega arith) refl refl
+
+refused-case : Holds (opening 3 1 1 (7 ∷ []) 2)
+unfolding Holds
+refused-case = three-refused 1 1 (7 ∷ [])
+
+alone-case : Holds (alone-ends (7 ∷ []) 2)
+unfolding Holds holds
+alone-case run calls last small runs e = alone-holds run calls last small runs e
+
 pub starred-cases : Starred-cases
 unfolding Starred-cases starred All-hold single times times-from doubled plus xor-from doublings settings check-count value-size quick-checks quick-planes-from
     quick-word quick-zero-from quick-summed are-checks each-long byte-list plane settings-refusal is-vector same differ-values
@@ -64,7 +79,7 @@ starred-cases = (
         checks-case _ _ _ _ refl,
         (
           checks-case _ _ _ _ refl,
-          (repaired-case _ _ _ _ _ refl refl refl refl (omega arith), (repaired-case _ _ _ _ _ refl refl refl refl (omega arith), (none-near-case, tt))),
+          (repaired-case _ _ _ _ _ refl refl refl refl (omega arith), (repaired-case _ _ _ _ _ refl refl refl refl (omega arith), (none-near-case, (opens-case, (refused-case, (alone-case, tt)))))),
         ),
       ),
     ),

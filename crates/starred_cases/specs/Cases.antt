@@ -2,12 +2,17 @@
 use mathlib.Core.Path.{_≡_}
 use mathlib.Core.Bool.{true}
 use mathlib.Core.List.{List, [], _∷_}
-use Prim.Native.Nat.{ℕ}
+use Prim.Native.Nat.{ℕ, _<_}
+use lib.ListN.{length, getD}
 use Rattle.field.specs.Field.{times}
 use Rattle.code.specs.Settings.{settings}
 use Rattle.code.specs.Polynomial.{generator}
 use Rattle.code.specs.Vector.{has-checks}
 use Rattle.code.specs.Repair.{Repaired, No-repair}
+use Rattle.column.specs.Record.{Rec, held-as, opened}
+use Rattle.column.specs.Refusal.{open-refusal}
+use Rattle.column.specs.Call.{Call, Run}
+use Rattle.column.specs.Promise.{none-held}
 
 -- values of one byte
 unfoldable pub single : List ℕ → List (List ℕ)
@@ -21,6 +26,8 @@ pub data Case : Type 0 where
   checks-are : (n t : ℕ) → (vector checks : List ℕ) → Case
   repaired-is : (n t : ℕ) → (vector checks repaired : List ℕ) → Case
   none-near : (n t : ℕ) → (vector checks : List ℕ) → Case
+  opening : (n t number : ℕ) → (own : List ℕ) → (answer : ℕ) → Case
+  alone-ends : (own : List ℕ) → (confidence : ℕ) → Case
 
 unfoldable pub Holds : Case → Type 0
 Holds (product a b c) = times a b ≡ c
@@ -28,6 +35,10 @@ Holds (generator-is m g) = generator m ≡ g
 Holds (checks-are n t vs cs) = has-checks (settings n t 1) (single vs) (single cs) ≡ true
 Holds (repaired-is n t vs cs us) = Repaired (settings n t 1) (single vs) (single cs) (single us)
 Holds (none-near n t vs cs) = No-repair (settings n t 1) (single vs) (single cs)
+Holds (opening n t k v a) = open-refusal (settings n t (length v)) k v ≡ a
+Holds (alone-ends v c) =
+    (run : ℕ) (calls : List Call) (last : Rec) → run < 65536 → Run (opened (settings 1 0 (length v)) 1 run v) calls last → last .round ≡ 4 →
+    getD (last .held) 0 none-held ≡ held-as v c
 
 unfoldable pub starred : List Case
 starred =
@@ -39,6 +50,9 @@ starred =
     ∷ repaired-is 4 1 (241 ∷ 86 ∷ 35 ∷ 35 ∷ []) (0 ∷ 136 ∷ []) (241 ∷ 86 ∷ 129 ∷ 35 ∷ [])
     ∷ repaired-is 4 1 (241 ∷ 86 ∷ 35 ∷ 35 ∷ []) (22 ∷ 61 ∷ []) (241 ∷ 49 ∷ 35 ∷ 35 ∷ [])
     ∷ none-near 4 1 (241 ∷ 86 ∷ 35 ∷ 35 ∷ []) (22 ∷ 77 ∷ [])
+    ∷ opening 4 1 1 (7 ∷ []) 0
+    ∷ opening 3 1 1 (7 ∷ []) 2
+    ∷ alone-ends (7 ∷ []) 2
     ∷ []
 
 unfoldable pub All-hold : List Case → Type 0
