@@ -24,7 +24,8 @@ pub fn load(vector: &[u8], n: usize, size: usize) -> [u8; 416]
     let mut rows = [0u8; 416];
     let mut i = 0;
     while i < n {
-        copy_value(&mut rows, 8 * i, vector, (n - 1 - i) * size, size);
+        let from = n - 1 - i;
+        copy_value(&mut rows, 8 * i, vector, from * size, size);
         i += 1;
     }
     rows
