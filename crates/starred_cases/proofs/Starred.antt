@@ -13,8 +13,8 @@ use Rattle.code.specs.Vector.{plane, each-long, is-vector, are-checks, same, di
 use Rattle.code.specs.Promise.{Repairs}
 use Rattle.code.proofs.Quick.{quick-summed, quick-zero-from, quick-word, quick-planes-from, quick-checks, checks-quick}
 use Rattle.code.proofs.Vector.{repairs}
-use Rattle.column.specs.Promise.{holds}
-use Rattle.column.proofs.Cases.{three-refused, four-opens, alone-holds}
+use Rattle.gradecast.specs.Promise.{holds}
+use Rattle.gradecast.proofs.Cases.{three-refused, four-opens, alone-holds}
 use Rattle.column.specs.Value.{is-blank}
 use Rattle.starred_cases.specs.Cases.{product, generator-is, checks-are, repaired-is, opening, alone-ends, Starred-cases, starred, All-hold, Holds, single}
 use Rattle.starred_cases.proofs.NoneNear.{none-near-case}

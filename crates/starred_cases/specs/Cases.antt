@@ -12,7 +12,7 @@ use Rattle.code.specs.Repair.{Repaired, No-repair}
 use Rattle.column.specs.Record.{Rec, held-as, opened}
 use Rattle.column.specs.Refusal.{open-refusal}
 use Rattle.column.specs.Call.{Call, Run}
-use Rattle.column.specs.Promise.{none-held}
+use Rattle.gradecast.specs.Promise.{none-held}
 
 -- values of one byte
 unfoldable pub single : List ℕ → List (List ℕ)

@@ -7,13 +7,13 @@ use Prim.Native.Nat.{ℕ, _+_, _-_, _≤_, _<_}
 use lib.ListN.{length, getD}
 use Rattle.code.specs.Settings.{Settings, settings-refusal}
 use Rattle.code.specs.Plane.{byte-list}
 use Rattle.column.specs.Value.{Value}
 use Rattle.column.specs.Record.{Held, held-as}
 use Rattle.column.specs.Call.{Call, taking, sending, closing, asking}
-use Rattle.column.specs.Promise.{Good, numbers, none-held, all-different, Fair, apart}
+use Rattle.gradecast.specs.Promise.{Good, numbers, none-held, all-different, Fair, apart}
 use Rattle.column.specs.View.{held-in, view}
 use Rattle.column.specs.Entry.{Open-says, Take-says, Send-says, Close-says, Result-says}
 use Rattle.column.specs.declared.record.Column.{Column}
 
 -- a call on a record and the record after it, refused or not: what `take`, `send`, `close` and `result` say; `send` and `result` give
 -- no record back, so that the one lent stays

@@ -1,0 +1,15 @@
+pub mod Count
+pub mod Most
+pub mod Grade
+pub mod Agreement
+pub mod Proper
+pub mod Walk
+pub mod Goods
+pub mod Handed
+pub mod Rounds
+pub mod Gradecast
+pub mod Built
+pub mod Cases
+pub mod Quick
+pub mod Listing
+pub mod Example
