@@ -1,0 +1,7 @@
+#!/bin/sh
+# The compiled calls against an independent table of refusals (hostile_frames.rs).
+set -eu
+cd "$(dirname "$0")/.."
+. tests/shared/build.sh
+rust_program hostile_frames
+target/tests/hostile_frames
