@@ -3,5 +3,5 @@
 set -eu
 cd "$(dirname "$0")/.."
 . tests/shared/build.sh
-rust_program hostile_frames
+rust_program hostile_frames -l static=sajowemi
 target/tests/hostile_frames

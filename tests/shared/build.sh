@@ -9,8 +9,35 @@ archive() { # target/staticlib/libsajowemi.a, proved anew where a crate is newer
     rt staticlib sajowemi >target/tests/archive.log 2>&1 || { cat target/tests/archive.log; return 1; }
 }
 
-rust_program() { # NAME: target/tests/NAME from tests/NAME.rs
+needs() { # COMMAND PACKAGE: installs the Debian package where the command is missing
+    command -v "$1" >/dev/null && return
+    { apt-get update && apt-get install -y "$2"; } >target/tests/install.log 2>&1 || { cat target/tests/install.log; return 1; }
+}
+
+rust() { # SOURCE OUTPUT OPTION..
     archive
-    rustc --edition 2024 -C opt-level=3 -C codegen-units=1 -A dead_code \
-        -L native=target/staticlib -l static=sajowemi -o "target/tests/$1" "tests/$1.rs"
+    needs rustc rustc
+    source=$1
+    output=$2
+    shift 2
+    rustc --edition 2024 -C opt-level=3 -C codegen-units=1 -L native=target/staticlib "$@" -o "$output" "$source"
+}
+
+rust_crate() { # target/tests/libsajowemi.rlib, the safe crate
+    rust rust/src/lib.rs target/tests/libsajowemi.rlib --crate-name sajowemi --crate-type rlib -l static=sajowemi
+}
+
+rust_program() { # NAME OPTION..: target/tests/NAME from tests/NAME.rs
+    name=$1
+    shift
+    rust "tests/$name.rs" "target/tests/$name" -A dead_code "$@"
+}
+
+c_program() { # SOURCE OUTPUT OPTION..
+    archive
+    needs gcc gcc
+    source=$1
+    output=$2
+    shift 2
+    gcc -std=c11 -O2 -g -Wall -Wextra -Werror -Iinclude "$@" -o "$output" "$source" target/staticlib/libsajowemi.a
 }
