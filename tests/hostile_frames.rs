@@ -18,7 +18,14 @@ use record::{EMPTY, bytes, bytes_mut};
 use refusals::{Call, Case, answer, command_of, count_after, frame_length};
 
 const RUN: u16 = 0x1234;
-const SETTINGS: [(u32, u32, u32); 6] = [(4, 1, 1), (31, 10, 8), (1, 0, 1), (32, 10, 8), (7, 2, 3), (2, 0, 4)];
+const SETTINGS: [(u32, u32, u32); 6] = [
+    (4, 1, 1),
+    (31, 10, 8),
+    (1, 0, 1),
+    (32, 10, 8),
+    (7, 2, 3),
+    (2, 0, 4),
+];
 
 macro_rules! same {
     ($what:expr, $ours:expr, $model:expr, $($case:tt)+) => {
@@ -55,8 +62,22 @@ fn frame(command: u8, sender: u8, run: u16, operand: &[u8]) -> Vec<u8> {
 fn taken(column: &Column, slot: u32, lent: &[u8], what: &str) -> Outcome {
     let mut outcome = archive::take(column, slot, lent);
     let model = answer(Call::Take, &case_of(column, slot, lent, 0));
-    same!(what, outcome.answer, model, "slot {slot}, {} bytes {:?}, {}", lent.len(), head(lent), settings(column));
-    same!(what, outcome.column.refused, count_after(model, column.refused), "the count, answer {model}, {}", settings(column));
+    same!(
+        what,
+        outcome.answer,
+        model,
+        "slot {slot}, {} bytes {:?}, {}",
+        lent.len(),
+        head(lent),
+        settings(column)
+    );
+    same!(
+        what,
+        outcome.column.refused,
+        count_after(model, column.refused),
+        "the count, answer {model}, {}",
+        settings(column)
+    );
     let counted = outcome.column.refused;
     outcome.column.refused = column.refused;
     if model == 0 {
@@ -72,7 +93,13 @@ fn same_record(before: &Column, after: &Column, what: &str) {
     let (ours, model) = (bytes(after), bytes(before));
     if ours != model {
         let at = (0..ours.len()).find(|&i| ours[i] != model[i]).unwrap();
-        same!(what, (at, ours[at]), (at, model[at]), "that byte of the record, {}", settings(before));
+        same!(
+            what,
+            (at, ours[at]),
+            (at, model[at]),
+            "that byte of the record, {}",
+            settings(before)
+        );
     }
 }
 
@@ -82,8 +109,20 @@ fn same_but_slot(before: &Column, after: &Column, slot: u32, lent: &[u8]) {
     let mut rest = *after;
     rest.slots[k] = before.slots[k];
     same_record(before, &rest, "taking a frame");
-    same!("the slot's mark", after.slots[k].taken != 0, true, "slot {slot}, {}", settings(before));
-    same!("the slot's operand", &after.slots[k].bytes[4..lent.len()], &lent[4..], "slot {slot}, {}", settings(before));
+    same!(
+        "the slot's mark",
+        after.slots[k].taken != 0,
+        true,
+        "slot {slot}, {}",
+        settings(before)
+    );
+    same!(
+        "the slot's operand",
+        &after.slots[k].bytes[4..lent.len()],
+        &lent[4..],
+        "slot {slot}, {}",
+        settings(before)
+    );
 }
 
 fn head(frame: &[u8]) -> &[u8] {
@@ -91,8 +130,20 @@ fn head(frame: &[u8]) -> &[u8] {
 }
 
 fn settings(column: &Column) -> String {
-    let Column { n, t, w, number, round, run, refused, .. } = column;
-    format!("n {n}, t {t}, w {w}, number {number}, round {round}, run {run}, refused {refused}, own {:?}", column.own)
+    let Column {
+        n,
+        t,
+        w,
+        number,
+        round,
+        run,
+        refused,
+        ..
+    } = column;
+    format!(
+        "n {n}, t {t}, w {w}, number {number}, round {round}, run {run}, refused {refused}, own {:?}",
+        column.own
+    )
 }
 
 /// The records of rounds 1 to 4 of one exchange, each with the frames of all but two columns taken.
@@ -102,7 +153,12 @@ fn rounds(n: u32, t: u32, w: u32, number: u32, left_out: [u32; 2]) -> Vec<Column
     chance.fill(&mut value);
     value[0] |= 1;
     let opened = archive::open(n, t, w, number, RUN, &value[..w as usize]);
-    same!("opening", opened.answer, 0, "n {n}, t {t}, w {w}, number {number}");
+    same!(
+        "opening",
+        opened.answer,
+        0,
+        "n {n}, t {t}, w {w}, number {number}"
+    );
     let mut column = opened.column;
     let mut records = Vec::new();
     for round in 1..=3 {
@@ -110,7 +166,13 @@ fn rounds(n: u32, t: u32, w: u32, number: u32, left_out: [u32; 2]) -> Vec<Column
         for slot in (1..=n).filter(|slot| *slot != number && !left_out.contains(slot)) {
             let mut operand = vec![0; size - 4];
             chance.fill(&mut operand);
-            column = taken(&column, slot, &frame(command_of(round), slot as u8, RUN, &operand), "a right frame").column;
+            column = taken(
+                &column,
+                slot,
+                &frame(command_of(round), slot as u8, RUN, &operand),
+                "a right frame",
+            )
+            .column;
         }
         records.push(column);
         let closed = archive::close(&column);
@@ -131,7 +193,11 @@ fn all_frames(n: u32, t: u32, w: u32) -> u64 {
     for record in rounds(n, t, w, number, [sender, other]) {
         for slot in [sender, other, number, 0, n + 1] {
             let looks_at_frame = answer(Call::Take, &case_of(&record, slot, &[], 0)) > 8;
-            let choices: &[bool] = if looks_at_frame { &[true, false] } else { &[true] };
+            let choices: &[bool] = if looks_at_frame {
+                &[true, false]
+            } else {
+                &[true]
+            };
             for first in choices {
                 let mut column = record;
                 column.slots[sender as usize - 1].taken = (!first).into();
@@ -167,10 +233,30 @@ fn all_lengths(column: &Column, slot: u32, sender: u8, run: u16) -> u64 {
 fn longest_frame() -> u64 {
     let column = rounds(31, 10, 8, 16, [31, 1])[1];
     let long = frame(0x22, 31, RUN, &[5; 161]);
-    same!("164 bytes", archive::take(&column, 31, &long[..164]).answer, 0, "n 31, t 10, w 8");
-    same!("165 bytes", archive::take(&column, 31, &long).answer, 11, "n 31, t 10, w 8");
-    same!("a buffer of 163", archive::send(&column, &mut [9; 163]), 16, "n 31, t 10, w 8");
-    same!("a buffer of 164", archive::send(&column, &mut [9; 164]), 0, "n 31, t 10, w 8");
+    same!(
+        "164 bytes",
+        archive::take(&column, 31, &long[..164]).answer,
+        0,
+        "n 31, t 10, w 8"
+    );
+    same!(
+        "165 bytes",
+        archive::take(&column, 31, &long).answer,
+        11,
+        "n 31, t 10, w 8"
+    );
+    same!(
+        "a buffer of 163",
+        archive::send(&column, &mut [9; 163]),
+        16,
+        "n 31, t 10, w 8"
+    );
+    same!(
+        "a buffer of 164",
+        archive::send(&column, &mut [9; 164]),
+        0,
+        "n 31, t 10, w 8"
+    );
     4
 }
 
@@ -194,7 +280,12 @@ fn count_at_top() -> u64 {
             let slot = if k == 6 { 3 } else { 4 };
             let outcome = taken(&column, slot, lent, "the count");
             same!("a refusal", outcome.answer, 9 + k as u32, "frame {lent:?}");
-            same!("the count", outcome.column.refused, refused.max(refused.wrapping_add(1)), "frame {lent:?}");
+            same!(
+                "the count",
+                outcome.column.refused,
+                refused.max(refused.wrapping_add(1)),
+                "frame {lent:?}"
+            );
             compared += 1;
         }
     }
@@ -207,7 +298,13 @@ fn sent(column: &Column, room: usize, operand: Option<&[u8]>) -> u32 {
     let mut buffer = before.clone();
     let ours = archive::send(column, &mut buffer);
     let model = answer(Call::Send, &case_of(column, 0, &[], room));
-    same!("sending", ours, model, "a buffer of {room}, {}", settings(column));
+    same!(
+        "sending",
+        ours,
+        model,
+        "a buffer of {room}, {}",
+        settings(column)
+    );
     let mut expected = before;
     if model == 0 {
         let command = command_of(column.round);
@@ -215,7 +312,13 @@ fn sent(column: &Column, room: usize, operand: Option<&[u8]>) -> u32 {
         let written = operand.unwrap_or(&buffer[4..size]);
         expected[..size].copy_from_slice(&frame(command, column.number as u8, column.run, written));
     }
-    same!("the buffer", buffer, expected, "a buffer of {room}, {}", settings(column));
+    same!(
+        "the buffer",
+        buffer,
+        expected,
+        "a buffer of {room}, {}",
+        settings(column)
+    );
     ours
 }
 
@@ -248,10 +351,35 @@ fn closed(column: &Column) {
     if model != 0 {
         return same_record(column, &outcome.column, "a refused closing");
     }
-    let Column { n, t, w, number, run, own, refused, .. } = *column;
-    let kept = Column { n, t, w, number, run, own, refused, round: column.round + 1, ..outcome.column };
+    let Column {
+        n,
+        t,
+        w,
+        number,
+        run,
+        own,
+        refused,
+        ..
+    } = *column;
+    let kept = Column {
+        n,
+        t,
+        w,
+        number,
+        run,
+        own,
+        refused,
+        round: column.round + 1,
+        ..outcome.column
+    };
     same_record(&kept, &outcome.column, "closing");
-    same!("slots after closing", outcome.column.slots.iter().any(|slot| slot.taken != 0), false, "{}", settings(column));
+    same!(
+        "slots after closing",
+        outcome.column.slots.iter().any(|slot| slot.taken != 0),
+        false,
+        "{}",
+        settings(column)
+    );
 }
 
 /// Asks for the result and compares the answer, values and confidences; of a refusal, that all of these are zeros.
@@ -260,16 +388,45 @@ fn asked(column: &Column) {
     let model = answer(Call::Result, &case_of(column, 0, &[], 0));
     same!("the result", held.answer, model, "{}", settings(column));
     if model != 0 {
-        same!("a refused result", (held.values, held.confidences), ([0; 256], [0; 32]), "{}", settings(column));
+        same!(
+            "a refused result",
+            (held.values, held.confidences),
+            ([0; 256], [0; 32]),
+            "{}",
+            settings(column)
+        );
         return;
     }
     let (size, count) = ((column.n * column.w) as usize, column.n as usize);
-    same!("values", &held.values[..size], &column.values[..size], "{}", settings(column));
-    same!("confidences", &held.confidences[..count], &column.confidences[..count], "{}", settings(column));
+    same!(
+        "values",
+        &held.values[..size],
+        &column.values[..size],
+        "{}",
+        settings(column)
+    );
+    same!(
+        "confidences",
+        &held.confidences[..count],
+        &column.confidences[..count],
+        "{}",
+        settings(column)
+    );
 }
 
 const NUMBERS: [u32; 13] = [0, 1, 2, 3, 4, 7, 8, 9, 31, 32, 33, 256, u32::MAX];
-const BAD: [u32; 10] = [0, 1, 2, 10, 11, 0x5555_5554, 0x5555_5555, 0x5555_5556, 0xaaaa_aaab, u32::MAX];
+const BAD: [u32; 10] = [
+    0,
+    1,
+    2,
+    10,
+    11,
+    0x5555_5554,
+    0x5555_5555,
+    0x5555_5556,
+    0xaaaa_aaab,
+    u32::MAX,
+];
 const SIZES: [u32; 6] = [0, 1, 4, 8, 9, u32::MAX];
 
 /// Settings in and out of range: openings with values of every length to 10, and records with them in every round.
@@ -297,12 +454,32 @@ fn all_settings() -> u64 {
 
 fn opened(n: u32, t: u32, w: u32, number: u32, own: &[u8]) {
     let outcome = archive::open(n, t, w, number, RUN, own);
-    let case = Case { n, t, w, number, own, round: 0, run: RUN, slot: 0, frame: &[], taken: false, room: 0 };
+    let case = Case {
+        n,
+        t,
+        w,
+        number,
+        own,
+        round: 0,
+        run: RUN,
+        slot: 0,
+        frame: &[],
+        taken: false,
+        room: 0,
+    };
     let model = answer(Call::Open, &case);
     same!("opening", outcome.answer, model, "{case:?}");
     let mut expected = EMPTY;
     if model == 0 {
-        expected = Column { n, t, w, number, round: 1, run: RUN, ..expected };
+        expected = Column {
+            n,
+            t,
+            w,
+            number,
+            round: 1,
+            run: RUN,
+            ..expected
+        };
         expected.own[..own.len()].copy_from_slice(own);
     }
     same_record(&expected, &outcome.column, "opening");
@@ -313,7 +490,16 @@ fn records_with(n: u32, t: u32, w: u32, number: u32) -> u64 {
     let mut compared = 0;
     for own in [[0u8; 8], [0, 0, 0, 0, 0, 0, 0, 1], [1; 8]] {
         for round in [0, 1, 2, 3, 4, 5, u32::MAX] {
-            let column = Column { n, t, w, number, round, run: RUN, own, ..EMPTY };
+            let column = Column {
+                n,
+                t,
+                w,
+                number,
+                round,
+                run: RUN,
+                own,
+                ..EMPTY
+            };
             let refused = answer(Call::Close, &case_of(&column, 0, &[], 0)) != 0;
             for room in [0, 3, 4, 5, 164, 200] {
                 sent(&column, room, None);
@@ -361,13 +547,25 @@ fn damaged(chance: &mut Chance) -> Column {
 fn likely_frame(chance: &mut Chance, column: &Column, slot: u32) -> Vec<u8> {
     let mut lent = vec![0u8; 200];
     chance.fill(&mut lent);
-    lent[0] = if chance.one_in(8) { lent[0] } else { command_of(1 + chance.below(3) as u32) };
-    lent[1] = if chance.one_in(8) { lent[1] } else { slot as u8 };
+    lent[0] = if chance.one_in(8) {
+        lent[0]
+    } else {
+        command_of(1 + chance.below(3) as u32)
+    };
+    lent[1] = if chance.one_in(8) {
+        lent[1]
+    } else {
+        slot as u8
+    };
     if !chance.one_in(8) {
         lent[2..4].copy_from_slice(&column.run.to_be_bytes());
     }
     let right = frame_length(lent[0], column.t.min(10), column.w.min(8)).unwrap_or(0);
-    lent.truncate(if chance.one_in(4) { chance.below(201) as usize } else { right });
+    lent.truncate(if chance.one_in(4) {
+        chance.below(201) as usize
+    } else {
+        right
+    });
     lent
 }
 
@@ -376,8 +574,17 @@ fn damaged_records(count: u64) -> u64 {
     let mut chance = Chance::new(41);
     for k in 0..count {
         let column = damaged(&mut chance);
-        let slot = if chance.one_in(8) { chance.word() as u32 } else { chance.below(34) as u32 };
-        taken(&column, slot, &likely_frame(&mut chance, &column, slot), "a damaged record");
+        let slot = if chance.one_in(8) {
+            chance.word() as u32
+        } else {
+            chance.below(34) as u32
+        };
+        taken(
+            &column,
+            slot,
+            &likely_frame(&mut chance, &column, slot),
+            "a damaged record",
+        );
         sent(&column, chance.below(201) as usize, None);
         asked(&column);
         if k % 16 == 0 {
@@ -389,8 +596,13 @@ fn damaged_records(count: u64) -> u64 {
 
 fn main() {
     let every = std::thread::scope(|scope| {
-        let threads: Vec<_> = SETTINGS.map(|(n, t, w)| scope.spawn(move || all_frames(n, t, w))).into();
-        threads.into_iter().map(|thread| thread.join().unwrap()).sum::<u64>()
+        let threads: Vec<_> = SETTINGS
+            .map(|(n, t, w)| scope.spawn(move || all_frames(n, t, w)))
+            .into();
+        threads
+            .into_iter()
+            .map(|thread| thread.join().unwrap())
+            .sum::<u64>()
     });
     let named = longest_frame() + count_at_top();
     let buffers: u64 = SETTINGS.iter().map(|&(n, t, w)| all_buffers(n, t, w)).sum();

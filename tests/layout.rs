@@ -14,11 +14,23 @@ const _: () = {
     assert!(offset_of!(Slot, taken) == 0 && offset_of!(Slot, bytes) == 1);
     assert!(size_of::<Column>() == 6116 && align_of::<Column>() == 4);
     assert!(offset_of!(Column, n) == 0 && offset_of!(Column, t) == 4 && offset_of!(Column, w) == 8);
-    assert!(offset_of!(Column, number) == 12 && offset_of!(Column, round) == 16 && offset_of!(Column, refused) == 20);
-    assert!(offset_of!(Column, run) == 24 && offset_of!(Column, own) == 26 && offset_of!(Column, slots) == 34);
+    assert!(
+        offset_of!(Column, number) == 12
+            && offset_of!(Column, round) == 16
+            && offset_of!(Column, refused) == 20
+    );
+    assert!(
+        offset_of!(Column, run) == 24
+            && offset_of!(Column, own) == 26
+            && offset_of!(Column, slots) == 34
+    );
     assert!(offset_of!(Column, heard) == 5314 && offset_of!(Column, agreed) == 5570);
     assert!(offset_of!(Column, values) == 5826 && offset_of!(Column, confidences) == 6082);
-    assert!(size_of::<Outcome>() == 6120 && offset_of!(Outcome, answer) == 0 && offset_of!(Outcome, column) == 4);
+    assert!(
+        size_of::<Outcome>() == 6120
+            && offset_of!(Outcome, answer) == 0
+            && offset_of!(Outcome, column) == 4
+    );
     assert!(size_of::<Holdings>() == 292 && offset_of!(Holdings, answer) == 0);
     assert!(offset_of!(Holdings, values) == 4 && offset_of!(Holdings, confidences) == 260);
 };
@@ -32,7 +44,10 @@ fn written() {
     let opened = archive::open(7, 2, 3, 5, 0x1234, &[61, 62, 63]);
     let column = opened.column;
     assert_eq!(opened.answer, 0);
-    assert_eq!([0, 4, 8, 12, 16, 20].map(|at| number_at(&column, at)), [7, 2, 3, 5, 1, 0]);
+    assert_eq!(
+        [0, 4, 8, 12, 16, 20].map(|at| number_at(&column, at)),
+        [7, 2, 3, 5, 1, 0]
+    );
     assert_eq!(bytes(&column)[24..26], 0x1234u16.to_ne_bytes());
     assert_eq!(bytes(&column)[26..34], [61, 62, 63, 0, 0, 0, 0, 0]);
     let frame = [0x11, 4, 0x12, 0x34, 71, 72, 73];

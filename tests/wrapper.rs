@@ -3,11 +3,15 @@
 use sajowemi::{Column, LONGEST_FRAME, Refusal, Repair, Settings, check_values, repair};
 
 const FOUR: Settings = Settings { n: 4, t: 1, w: 1 };
-const NUMBERS: [u32; 20] = [1, 2, 3, 4, 5, 6, 7, 8, 9, 10, 11, 12, 13, 14, 15, 16, 17, 18, 21, 22];
+const NUMBERS: [u32; 20] = [
+    1, 2, 3, 4, 5, 6, 7, 8, 9, 10, 11, 12, 13, 14, 15, 16, 17, 18, 21, 22,
+];
 
 fn exchange() {
     let heights = [241u8, 86, 35, 77];
-    let mut group: Vec<Column> = (1..=4).map(|k| Column::open(FOUR, k, 7, &heights[k as usize - 1..][..1]).unwrap()).collect();
+    let mut group: Vec<Column> = (1..=4)
+        .map(|k| Column::open(FOUR, k, 7, &heights[k as usize - 1..][..1]).unwrap())
+        .collect();
     for round in 1..=3 {
         let sent = group.clone();
         for column in &mut group {
@@ -25,9 +29,19 @@ fn exchange() {
     }
     for column in &group {
         let beliefs = column.result().unwrap();
-        assert!(beliefs.all().eq(heights.iter().map(|height| (core::slice::from_ref(height), 2))));
-        assert_eq!((beliefs.of(0), beliefs.of(5), column.refused()), (None, None, 9));
-        assert_eq!(Column::from_record(*column.record()).close(), Err(Refusal::NoOpenRound));
+        assert!(
+            beliefs.all().eq(heights
+                .iter()
+                .map(|height| (core::slice::from_ref(height), 2)))
+        );
+        assert_eq!(
+            (beliefs.of(0), beliefs.of(5), column.refused()),
+            (None, None, 9)
+        );
+        assert_eq!(
+            Column::from_record(*column.record()).close(),
+            Err(Refusal::NoOpenRound)
+        );
     }
 }
 
@@ -37,16 +51,30 @@ fn code() {
     assert_eq!(check_values(FOUR, &vector, &mut checks), Ok(()));
     assert_eq!(checks, [39, 78, 9]);
     let mut output = [9; 5];
-    assert_eq!(repair(FOUR, &vector, &[22, 77], &mut output), Ok(Repair::Nothing));
+    assert_eq!(
+        repair(FOUR, &vector, &[22, 77], &mut output),
+        Ok(Repair::Nothing)
+    );
     assert_eq!(output, [9; 5]);
-    assert_eq!(repair(FOUR, &vector, &[0, 136], &mut output), Ok(Repair::Repaired));
+    assert_eq!(
+        repair(FOUR, &vector, &[0, 136], &mut output),
+        Ok(Repair::Repaired)
+    );
     assert_eq!(output, [241, 86, 129, 35, 9]);
-    assert_eq!(repair(FOUR, &vector, &[0], &mut output), Err(Refusal::CodeLength));
-    assert_eq!(check_values(Settings { n: 3, t: 1, w: 1 }, &vector, &mut checks), Err(Refusal::TooFewColumns));
+    assert_eq!(
+        repair(FOUR, &vector, &[0], &mut output),
+        Err(Refusal::CodeLength)
+    );
+    assert_eq!(
+        check_values(Settings { n: 3, t: 1, w: 1 }, &vector, &mut checks),
+        Err(Refusal::TooFewColumns)
+    );
 }
 
 fn opening_refusal(n: u32, t: u32, w: u32, number: u32, own: &[u8]) -> u32 {
-    Column::open(Settings { n, t, w }, number, 7, own).err().map_or(0, Refusal::number)
+    Column::open(Settings { n, t, w }, number, 7, own)
+        .err()
+        .map_or(0, Refusal::number)
 }
 
 fn refusals() {
@@ -60,7 +88,8 @@ fn refusals() {
     ];
     assert_eq!(refused, [1, 2, 3, 4, 5, 6]);
     let mut column = Column::open(FOUR, 1, 7, &[1]).unwrap();
-    let mut frame_refusal = |slot: u32, frame: &[u8]| column.take(slot, frame).err().map_or(0, Refusal::number);
+    let mut frame_refusal =
+        |slot: u32, frame: &[u8]| column.take(slot, frame).err().map_or(0, Refusal::number);
     assert_eq!(frame_refusal(1, &[]), 8);
     assert_eq!(frame_refusal(2, &[]), 9);
     assert_eq!(frame_refusal(2, &[1, 2, 0, 7, 5]), 10);
@@ -77,9 +106,15 @@ fn texts() {
     let header = std::fs::read_to_string("include/sajowemi.h").unwrap();
     for number in 0..=300 {
         let refusal = Refusal::from_number(number);
-        assert_eq!(refusal.map(Refusal::number), Some(number).filter(|number| NUMBERS.contains(number)));
+        assert_eq!(
+            refusal.map(Refusal::number),
+            Some(number).filter(|number| NUMBERS.contains(number))
+        );
         if let Some(refusal) = refusal {
-            assert!(header.contains(&format!("return \"{refusal}\";")), "{refusal}");
+            assert!(
+                header.contains(&format!("return \"{refusal}\";")),
+                "{refusal}"
+            );
             assert!(header.contains(&format!(" = {number},\n")), "{number}");
         }
     }
@@ -90,5 +125,8 @@ fn main() {
     code();
     refusals();
     texts();
-    println!("wrapper: the safe crate runs an exchange, and has the {} refusals of the header", NUMBERS.len());
+    println!(
+        "wrapper: the safe crate runs an exchange, and has the {} refusals of the header",
+        NUMBERS.len()
+    );
 }

@@ -46,8 +46,21 @@ mod linked {
     use super::{Column, Holdings, Outcome};
 
     unsafe extern "C" {
-        pub fn sajowemi_open(n: u32, t: u32, w: u32, number: u32, run: u16, own: *const u8, own_length: usize) -> Outcome;
-        pub fn sajowemi_take(column: Column, slot: u32, frame: *const u8, frame_length: usize) -> Outcome;
+        pub fn sajowemi_open(
+            n: u32,
+            t: u32,
+            w: u32,
+            number: u32,
+            run: u16,
+            own: *const u8,
+            own_length: usize,
+        ) -> Outcome;
+        pub fn sajowemi_take(
+            column: Column,
+            slot: u32,
+            frame: *const u8,
+            frame_length: usize,
+        ) -> Outcome;
         pub fn sajowemi_send(column: Column, buffer: *mut u8, buffer_length: usize) -> u32;
         pub fn sajowemi_close(column: Column) -> Outcome;
         pub fn sajowemi_result(column: Column) -> Holdings;
@@ -97,11 +110,31 @@ pub fn result(column: &Column) -> Holdings {
 }
 
 pub fn check_values(n: u32, t: u32, w: u32, vector: &[u8], output: &mut [u8]) -> u32 {
-    unsafe { linked::sajowemi_check_values(n, t, w, vector.as_ptr(), vector.len(), output.as_mut_ptr(), output.len()) }
+    unsafe {
+        linked::sajowemi_check_values(
+            n,
+            t,
+            w,
+            vector.as_ptr(),
+            vector.len(),
+            output.as_mut_ptr(),
+            output.len(),
+        )
+    }
 }
 
 pub fn repair(n: u32, t: u32, w: u32, vector: &[u8], checks: &[u8], output: &mut [u8]) -> u32 {
     unsafe {
-        linked::sajowemi_repair(n, t, w, vector.as_ptr(), vector.len(), checks.as_ptr(), checks.len(), output.as_mut_ptr(), output.len())
+        linked::sajowemi_repair(
+            n,
+            t,
+            w,
+            vector.as_ptr(),
+            vector.len(),
+            checks.as_ptr(),
+            checks.len(),
+            output.as_mut_ptr(),
+            output.len(),
+        )
     }
 }

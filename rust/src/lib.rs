@@ -41,7 +41,9 @@ impl Column {
         let Settings { n, t, w } = settings;
         let outcome = archive::open(n, t, w, number, run, own);
         Refusal::from_answer(outcome.answer)?;
-        Ok(Column { record: outcome.column })
+        Ok(Column {
+            record: outcome.column,
+        })
     }
 
     /// A column with a record that was kept elsewhere. Its bits may be anything: each call checks them.
@@ -94,7 +96,11 @@ impl Column {
     pub fn result(&self) -> Result<Beliefs, Refusal> {
         let held = archive::result(&self.record);
         Refusal::from_answer(held.answer)?;
-        Ok(Beliefs { n: self.record.n as usize, w: self.record.w as usize, held })
+        Ok(Beliefs {
+            n: self.record.n as usize,
+            w: self.record.w as usize,
+            held,
+        })
     }
 }
 
@@ -110,7 +116,10 @@ impl Beliefs {
     /// The value of column k and its confidence, 0 to 2; a value of zeros where it is 0. None where there is no column k.
     pub fn of(&self, k: u32) -> Option<(&[u8], u8)> {
         let at = (k as usize).checked_sub(1).filter(|at| *at < self.n)?;
-        Some((&self.held.values[at * self.w..(at + 1) * self.w], self.held.confidences[at]))
+        Some((
+            &self.held.values[at * self.w..(at + 1) * self.w],
+            self.held.confidences[at],
+        ))
     }
 
     /// The same of columns 1 to n.
@@ -138,7 +147,12 @@ pub enum Repair {
 const NONE: u32 = 256;
 
 /// The vector of n values repaired by the 2t check values received, in front of the output, whose other bytes are kept.
-pub fn repair(settings: Settings, vector: &[u8], checks: &[u8], output: &mut [u8]) -> Result<Repair, Refusal> {
+pub fn repair(
+    settings: Settings,
+    vector: &[u8],
+    checks: &[u8],
+    output: &mut [u8],
+) -> Result<Repair, Refusal> {
     let Settings { n, t, w } = settings;
     match archive::repair(n, t, w, vector, checks, output) {
         NONE => Ok(Repair::Nothing),

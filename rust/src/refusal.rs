@@ -31,6 +31,7 @@ pub enum Refusal {
 use Refusal::*;
 
 /// Each refusal with what it says.
+#[rustfmt::skip]
 const SAYS: [(Refusal, &str); 20] = [
     (ColumnCount, "a group has 1 to 32 columns"),
     (TooFewColumns, "too few columns to bear that many bad ones: three for each and one more are needed"),
@@ -60,7 +61,9 @@ impl Refusal {
     }
 
     pub fn from_number(number: u32) -> Option<Refusal> {
-        SAYS.iter().map(|(refusal, _)| *refusal).find(|refusal| refusal.number() == number)
+        SAYS.iter()
+            .map(|(refusal, _)| *refusal)
+            .find(|refusal| refusal.number() == number)
     }
 
     /// Done, or why not. The archive answers 0 or one of these numbers and no other, which is proved.
@@ -75,7 +78,10 @@ impl Refusal {
 
 impl fmt::Display for Refusal {
     fn fmt(&self, to: &mut fmt::Formatter) -> fmt::Result {
-        let says = SAYS.iter().find(|(refusal, _)| refusal == self).map_or("", |(_, says)| says);
+        let says = SAYS
+            .iter()
+            .find(|(refusal, _)| refusal == self)
+            .map_or("", |(_, says)| says);
         to.write_str(says)
     }
 }

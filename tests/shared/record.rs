@@ -14,7 +14,10 @@ pub const EMPTY: Column = Column {
     refused: 0,
     run: 0,
     own: [0; 8],
-    slots: [Slot { taken: 0, bytes: [0; 164] }; 32],
+    slots: [Slot {
+        taken: 0,
+        bytes: [0; 164],
+    }; 32],
     heard: [0; 256],
     agreed: [0; 256],
     values: [0; 256],

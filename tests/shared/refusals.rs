@@ -54,6 +54,7 @@ pub struct Line {
 const EVERY: &[Call] = &[Open, Take, Send, Close, Result];
 
 /// From top to bottom; the first line that concerns the call and applies is its answer.
+#[rustfmt::skip]
 pub const LINES: &[Line] = &[
     Line { number: 1, concerns: EVERY, applies: |c| !(1..=32).contains(&c.n) },
     Line { number: 2, concerns: EVERY, applies: |c| u64::from(c.n) < 3 * u64::from(c.t) + 1 },
@@ -75,10 +76,17 @@ pub const LINES: &[Line] = &[
 ];
 
 pub fn answer(call: Call, case: &Case) -> u32 {
-    LINES.iter().find(|line| line.concerns.contains(&call) && (line.applies)(case)).map_or(0, |line| line.number)
+    LINES
+        .iter()
+        .find(|line| line.concerns.contains(&call) && (line.applies)(case))
+        .map_or(0, |line| line.number)
 }
 
 /// The count of refused frames after an answer: one more under 9 to 15, up to its top.
 pub fn count_after(answer: u32, refused: u32) -> u32 {
-    if (9..=15).contains(&answer) { refused.saturating_add(1) } else { refused }
+    if (9..=15).contains(&answer) {
+        refused.saturating_add(1)
+    } else {
+        refused
+    }
 }
