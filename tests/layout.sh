@@ -5,5 +5,5 @@ cd "$(dirname "$0")/.."
 . tests/shared/build.sh
 c_program tests/layout.c target/tests/layout_in_c
 target/tests/layout_in_c
-rust_program layout -l static=sajowemi
+rust_program tests/layout.rs target/tests/layout
 target/tests/layout

@@ -7,17 +7,19 @@ mod archive;
 mod coder;
 #[path = "shared/exchange.rs"]
 mod exchange;
+#[path = "shared/frames.rs"]
+mod frames;
 #[path = "../bench/repair/linear.rs"]
 mod linear;
 #[path = "shared/refusals.rs"]
 mod refusals;
 
 use archive::Column;
-use exchange::{agree, frame};
-use refusals::command_of;
+use exchange::agree;
+use frames::{command_of, frame};
 use std::collections::BTreeMap;
 
-const LIAR: u32 = 4;
+const LIAR: u8 = 4;
 const RUN: u16 = 513;
 const HEIGHTS: [u8; 3] = [241, 86, 35];
 /// What the liar tells the readers in round one; 0 is a frame that never comes.
@@ -103,11 +105,15 @@ fn after_values(told: [u8; 3]) -> [Column; 3] {
         let own = &HEIGHTS[reader..reader + 1];
         let mut column = archive::open(4, 1, 1, reader as u32 + 1, RUN, own).column;
         for sender in (0..3).filter(|sender| *sender != reader) {
-            let slot = sender as u32 + 1;
-            column = take(&column, slot, &frame(0x11, slot, RUN, &[HEIGHTS[sender]]));
+            let told = frame(0x11, sender as u8 + 1, RUN, &[HEIGHTS[sender]]);
+            column = take(&column, sender as u32 + 1, &told);
         }
         if told[reader] != 0 {
-            column = take(&column, LIAR, &frame(0x11, LIAR, RUN, &[told[reader]]));
+            column = take(
+                &column,
+                LIAR.into(),
+                &frame(0x11, LIAR, RUN, &[told[reader]]),
+            );
         }
         close(&column)
     })
@@ -147,7 +153,7 @@ fn every_closing(
     for pair in 0..=65535u16 {
         table[3] = repaired[usize::from(pair)].unwrap_or_default();
         let lie = frame(command, LIAR, RUN, &pair.to_be_bytes());
-        compare(&close(&take(&column, LIAR, &lie)), &table);
+        compare(&close(&take(&column, LIAR.into(), &lie)), &table);
     }
     65537
 }

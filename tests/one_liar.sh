@@ -3,5 +3,5 @@
 set -eu
 cd "$(dirname "$0")/.."
 . tests/shared/build.sh
-rust_program one_liar -l static=sajowemi
+rust_program tests/one_liar.rs target/tests/one_liar
 target/tests/one_liar

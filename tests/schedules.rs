@@ -10,6 +10,8 @@ mod chance;
 mod coder;
 #[path = "shared/exchange.rs"]
 mod exchange;
+#[path = "shared/frames.rs"]
+mod frames;
 #[path = "../bench/repair/linear.rs"]
 mod linear;
 #[path = "shared/refusals.rs"]
@@ -17,8 +19,8 @@ mod refusals;
 
 use archive::Column;
 use chance::Chance;
-use exchange::{Model, Value, agree, frame};
-use refusals::command_of;
+use exchange::{Model, Value, agree};
+use frames::{command_of, frame};
 
 /// A good column: the library's record and the model's.
 #[derive(Clone)]
@@ -183,7 +185,7 @@ impl Group {
                 });
                 let lie = (
                     slot,
-                    frame(command, slot, self.run, &self.lie(chance, reader)),
+                    frame(command, slot as u8, self.run, &self.lie(chance, reader)),
                 );
                 events.push(if chance.one_in(12) {
                     damaged(chance, &lie)

@@ -3,5 +3,5 @@
 set -eu
 cd "$(dirname "$0")/.."
 . tests/shared/build.sh
-rust_program schedules -l static=sajowemi
+rust_program tests/schedules.rs target/tests/schedules
 target/tests/schedules

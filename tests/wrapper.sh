@@ -4,5 +4,5 @@ set -eu
 cd "$(dirname "$0")/.."
 . tests/shared/build.sh
 rust_crate
-rust_program wrapper --extern sajowemi=target/tests/libsajowemi.rlib
+rust tests/wrapper.rs target/tests/wrapper --extern sajowemi=target/tests/libsajowemi.rlib
 target/tests/wrapper

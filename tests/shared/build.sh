@@ -27,10 +27,8 @@ rust_crate() { # target/tests/libsajowemi.rlib, the safe crate
     rust rust/src/lib.rs target/tests/libsajowemi.rlib --crate-name sajowemi --crate-type rlib -l static=sajowemi
 }
 
-rust_program() { # NAME OPTION..: target/tests/NAME from tests/NAME.rs
-    name=$1
-    shift
-    rust "tests/$name.rs" "target/tests/$name" -A dead_code "$@"
+rust_program() { # SOURCE OUTPUT OPTION..: one that calls the archive by itself, and leaves parts of tests/shared unused
+    rust "$@" -A dead_code -l static=sajowemi
 }
 
 c_program() { # SOURCE OUTPUT OPTION..

@@ -1,8 +1,9 @@
 //! One column's exchange, written apart from the library: tables of values as lists, counts in a map, and repair by linear equations.
 
 use crate::coder::check_values;
+use crate::frames::{command_of, frame};
 use crate::linear;
-use crate::refusals::{Call, Case, answer, command_of, count_after};
+use crate::refusals::{Call, Case, answer, count_after};
 use std::collections::BTreeMap;
 
 pub type Value = Vec<u8>;
@@ -82,7 +83,12 @@ impl Model {
             2 => self.checks(&self.heard),
             _ => self.checks(&self.agreed),
         };
-        frame(command_of(self.round), self.number, self.run, &operand)
+        frame(
+            command_of(self.round),
+            self.number as u8,
+            self.run,
+            &operand,
+        )
     }
 
     pub fn checks(&self, vector: &[Value]) -> Vec<u8> {
@@ -181,11 +187,6 @@ fn found(table: &[Vec<Value>], k: usize) -> BTreeMap<Value, u32> {
         *times.entry(row[k].clone()).or_default() += 1;
     }
     times
-}
-
-pub fn frame(command: u8, sender: u32, run: u16, operand: &[u8]) -> Vec<u8> {
-    let [high, low] = run.to_be_bytes();
-    [&[command, sender as u8, high, low], operand].concat()
 }
 
 /// What two good columns promise each other about one column: confidences at most one apart, and equal values where both are above 0.

@@ -1,5 +1,7 @@
 //! Where a call is turned down: the table of refusals, a line for each number, written apart from the library's definitions.
 
+use crate::frames::{command_of, frame_length};
+
 #[derive(Clone, Copy, Debug, PartialEq)]
 pub enum Call {
     Open,
@@ -25,24 +27,6 @@ pub struct Case<'a> {
     pub frame: &'a [u8],
     pub taken: bool,
     pub room: usize,
-}
-
-/// Whole length of the frame that a command begins; none for an unknown command.
-pub fn frame_length(command: u8, t: u32, w: u32) -> Option<usize> {
-    match command {
-        0x11 => Some(4 + w as usize),
-        0x22 | 0x33 => Some(4 + 2 * t as usize * w as usize),
-        _ => None,
-    }
-}
-
-pub fn command_of(round: u32) -> u8 {
-    match round {
-        1 => 0x11,
-        2 => 0x22,
-        3 => 0x33,
-        _ => 0,
-    }
 }
 
 pub struct Line {
