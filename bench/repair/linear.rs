@@ -38,19 +38,19 @@ const fn logarithms() -> [u16; 256] {
 }
 
 #[inline(always)]
-fn log(a: u8) -> usize {
+pub fn log(a: u8) -> usize {
     LOG[a as usize] as usize
 }
 
 /// a times the byte with this logarithm.
 #[inline(always)]
-fn times(a: u8, log_b: usize) -> u8 {
+pub fn times(a: u8, log_b: usize) -> u8 {
     EXP[(log(a) + log_b) & 1023]
 }
 
 /// 2 to any exponent.
 #[inline(always)]
-fn power(exponent: usize) -> u8 {
+pub fn power(exponent: usize) -> u8 {
     EXP[exponent % 255]
 }
 

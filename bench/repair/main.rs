@@ -1,13 +1,14 @@
-//! Repair by three programs on the same inputs: first whether they answer alike, then how long they take.
+//! Repair and check values by three programs on the same inputs: first whether they answer alike, then how long they take.
 //!
 //! One run, interleaved: a round times every program once in every case, on the same eight inputs one after the other,
 //! after one call that is not timed. The figure is the median over the rounds of the time for one call. Inputs are prepared
 //! beforehand. Each program has an output buffer of its own, which is lent again and again and not cleared.
 
+#[path = "../../rust/src/archive.rs"]
+mod archive;
 mod fec;
 mod linear;
-#[cfg(ours)]
-mod ours;
+mod register;
 
 use std::hint::black_box;
 use std::time::Instant;
@@ -24,6 +25,9 @@ const SETTINGS: [(usize, usize, usize, usize); 5] = [
     (4, 1, 4, 0),
     (4, 1, 4, 1),
 ];
+
+/// Those with nothing wrong, for check values.
+const WHOLE: [(usize, usize, usize, usize); 2] = [(31, 10, 8, 0), (4, 1, 4, 0)];
 
 /// Settings, a vector and check values, some of them wrong.
 struct Input {
@@ -75,7 +79,7 @@ impl Draw {
 
 struct Program<'a> {
     name: &'static str,
-    repair: &'a dyn Fn(&Input, &mut [u8]) -> u32,
+    run: &'a dyn Fn(&Input, &mut [u8]) -> u32,
 }
 
 fn assert_alike(programs: &[Program], input: &Input) -> u32 {
@@ -83,7 +87,7 @@ fn assert_alike(programs: &[Program], input: &Input) -> u32 {
         .iter()
         .map(|program| {
             let mut output = [0xa5; 300];
-            let answer = (program.repair)(input, &mut output[..input.n * input.w + 20]);
+            let answer = (program.run)(input, &mut output[..input.n * input.w + 20]);
             (answer, output)
         })
         .collect();
@@ -117,11 +121,11 @@ fn time(programs: &[Program], cases: &[Vec<Input>]) -> Vec<Vec<f64>> {
         for (inputs, times) in cases.iter().zip(&mut times) {
             for i in 0..programs.len() {
                 let which = (round + i) % programs.len();
-                let (repair, output) = (programs[which].repair, &mut outputs[which]);
-                black_box(repair(black_box(&inputs[from]), black_box(output)));
+                let (run, output) = (programs[which].run, &mut outputs[which]);
+                black_box(run(black_box(&inputs[from]), black_box(output)));
                 let begin = Instant::now();
                 for input in &inputs[from..from + IN_A_ROW] {
-                    black_box(repair(black_box(input), black_box(output)));
+                    black_box(run(black_box(input), black_box(output)));
                 }
                 times[which].push(begin.elapsed().as_secs_f64() * 1e6 / IN_A_ROW as f64);
             }
@@ -133,21 +137,48 @@ fn time(programs: &[Program], cases: &[Vec<Input>]) -> Vec<Vec<f64>> {
         .collect()
 }
 
+/// The settings, the times of each program, and how many times as long as the first the others take.
+fn print_table(
+    programs: &[Program],
+    cases: &[Vec<Input>],
+    settings: &[(usize, usize, usize, usize)],
+) {
+    print!("| n | t | w | wrong in each plane |");
+    for program in programs {
+        print!(" {} |", program.name);
+    }
+    for program in &programs[1..] {
+        print!(" {} / {} |", program.name, programs[0].name);
+    }
+    println!();
+    println!("|{}", "---|".repeat(3 + 2 * programs.len()));
+    for ((n, t, w, wrong), times) in settings.iter().zip(time(programs, cases)) {
+        print!("| {n} | {t} | {w} | {wrong} |");
+        for time in &times {
+            print!(" {time:.2} |");
+        }
+        for time in &times[1..] {
+            print!(" {:.1} |", time / times[0]);
+        }
+        println!();
+    }
+    println!();
+}
+
 fn main() {
     let coders = fec::Coders::new();
-    let programs = [
-        #[cfg(ours)]
+    let repairs = [
         Program {
             name: "this library",
-            repair: &|i, output| {
-                ours::repair(
+            run: &|i, output| {
+                archive::repair(
                     i.n as u32, i.t as u32, i.w as u32, &i.vector, &i.checks, output,
                 )
             },
         },
         Program {
             name: "linear equations",
-            repair: &|i, output| {
+            run: &|i, output| {
                 linear::repair(
                     i.n as u32, i.t as u32, i.w as u32, &i.vector, &i.checks, output,
                 )
@@ -155,7 +186,27 @@ fn main() {
         },
         Program {
             name: "libfec",
-            repair: &|i, output| coders.repair(i.n, i.t, i.w, &i.vector, &i.checks, output),
+            run: &|i, output| coders.repair(i.n, i.t, i.w, &i.vector, &i.checks, output),
+        },
+    ];
+    let encoders = [
+        Program {
+            name: "this library",
+            run: &|i, output| {
+                archive::check_values(i.n as u32, i.t as u32, i.w as u32, &i.vector, output)
+            },
+        },
+        Program {
+            name: "register",
+            run: &|i, output| register::check_values(i.n, i.t, i.w, &i.vector, output),
+        },
+        Program {
+            name: "libfec",
+            run: &|i, output| {
+                let checks = coders.checks(i.n, i.t, i.w, &i.vector);
+                output[..checks.len()].copy_from_slice(&checks);
+                0
+            },
         },
     ];
     let mut draw = Draw(0x9e37_79b9_7f4a_7c15);
@@ -170,45 +221,30 @@ fn main() {
         if turn % 16 == 0 {
             input.checks.fill_with(|| draw.below(256) as u8);
         }
-        repaired += usize::from(assert_alike(&programs, &input) == 0);
+        assert_alike(&encoders, &input);
+        repaired += usize::from(assert_alike(&repairs, &input) == 0);
     }
     println!(
         "{RANDOM} random inputs, all n, t, w, 0 to t + 3 wrong places in a plane: answered alike, {repaired} repaired, the others none"
     );
     println!();
 
-    let cases = SETTINGS.map(|(n, t, w, wrong)| -> Vec<Input> {
+    let mut inputs = |(n, t, w, wrong)| -> Vec<Input> {
         (0..INPUTS)
             .map(|_| draw.input(&coders, n, t, w, wrong))
             .collect()
-    });
+    };
+    let cases = SETTINGS.map(&mut inputs);
+    let whole = WHOLE.map(&mut inputs);
     for input in cases.iter().flatten() {
-        assert_eq!(assert_alike(&programs, input), 0);
+        assert_eq!(assert_alike(&repairs, input), 0);
     }
     println!(
-        "Microseconds a call, medians of {ROUNDS} rounds of {IN_A_ROW} calls each, buffers not cleared:"
+        "Microseconds a call, medians of {ROUNDS} rounds of {IN_A_ROW} calls each, buffers not cleared. Repair:"
     );
     println!();
-    print!("| n | t | w | wrong in each plane |");
-    for program in &programs {
-        print!(" {} |", program.name);
-    }
-    for program in &programs[1..] {
-        print!(" {} / {} |", program.name, programs[0].name);
-    }
+    print_table(&repairs, &cases, &SETTINGS);
+    println!("Check values:");
     println!();
-    println!(
-        "|{}",
-        "---|".repeat(4 + programs.len() + programs.len() - 1)
-    );
-    for ((n, t, w, wrong), times) in SETTINGS.iter().zip(time(&programs, &cases)) {
-        print!("| {n} | {t} | {w} | {wrong} |");
-        for time in &times {
-            print!(" {time:.2} |");
-        }
-        for time in &times[1..] {
-            print!(" {:.1} |", time / times[0]);
-        }
-        println!();
-    }
+    print_table(&encoders, &whole, &WHOLE);
 }
