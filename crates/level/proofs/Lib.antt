@@ -1,0 +1,5 @@
+pub mod Integers
+pub mod Placing
+pub mod Remaining
+pub mod Gathering
+pub mod Asking
