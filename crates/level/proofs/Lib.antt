@@ -3,3 +3,4 @@ pub mod Placing
 pub mod Remaining
 pub mod Gathering
 pub mod Asking
+pub mod Sorting
