@@ -20,7 +20,7 @@ use Rattle.column.proofs.Refusal.{first-of-zero}
 use Rattle.column.proofs.Lines.{first-of-here, first-of-later}
 use Rattle.level.specs.Level.{height, confident, ascending, dropped, needed, without-ends, left, middle, level-of, correction-of, level-refusal}
 use Rattle.level.specs.Entry.{Level-says}
-use Rattle.level.specs.Ends.{In-front}
+use Rattle.level.specs.Ends.{In-front, Sorted-in}
 use Rattle.level.proofs.Gathering.{front-length}
 
 -- the lines
@@ -63,13 +63,13 @@ pub record Sorted-heights (c : Column) (many : ℕ) (array : List ℤ) : Type 0 
   pub front : In-front many (ascending (confident (view c .held))) array
 
 pub sorted-heights :
-    (c : Column) (values confidences : List ℕ) (many : ℕ) (array : List ℤ) → Result-says c 0 values confidences → c .w ≡ 4 → many ≤ 32 →
-    ((t : ℕ) → In-front many (ascending (confident (held-in (settings (c .n) t 4) values confidences))) array) → Sorted-heights c many array
+    (c : Column) (values confidences : List ℕ) (many : ℕ) (array : List ℤ) → Result-says c 0 values confidences → c .w ≡ 4 →
+    Sorted-in (c .n) values confidences many array → Sorted-heights c many array
 unfolding settings-of
-sorted-heights c values confidences many array says size few front =
+sorted-heights c values confidences many array says size sorted =
     let e : held-in (settings (c .n) (c .t) 4) values confidences ≡ view c .held =
     ap (λ (w : ℕ). held-in (settings (c .n) (c .t) w) values confidences) (sym size) ∙ says .done refl in
-    record { asked = sym (says .answered); size = size; few = few; front = rw e at (front (c .t)) }
+    record { asked = sym (says .answered); size = size; few = sorted .few; front = rw e at (sorted .heights (c .t)) }
 
 module _ (c : Column) (many : ℕ) (array : List ℤ) (s : Sorted-heights c many array) where
   count : length (confident (view c .held)) ≡ many

@@ -28,7 +28,7 @@ mag-sum (pos a) (negsuc b) = mag-less a b
 mag-sum (negsuc a) (pos b) = let h = mag-less b a in omega arith
 mag-sum (negsuc a) (negsuc b) = omega arith
 
-pub mag-negated : (a : ℤ) → mag (negℤ a) ≤ suc (mag a)
+mag-negated : (a : ℤ) → mag (negℤ a) ≤ suc (mag a)
 mag-negated (pos zero) = omega arith
 mag-negated (pos (suc a)) = omega arith
 mag-negated (negsuc a) = omega arith
@@ -36,7 +36,7 @@ mag-negated (negsuc a) = omega arith
 pub mag-difference : (a b : ℤ) → mag (a -ℤ b) ≤ 2 + (mag a + mag b)
 mag-difference a b = let s = mag-sum a (negℤ b) in let n = mag-negated b in omega arith
 
-pub mag-quotient : (a : ℤ) → mag (quotZ a (pos 2)) ≤ mag a
+mag-quotient : (a : ℤ) → mag (quotZ a (pos 2)) ≤ mag a
 mag-quotient (pos a) = omega arith
 mag-quotient (negsuc a) = go a (suc a / 2) (omega arith)
   where

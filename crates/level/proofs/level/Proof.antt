@@ -60,7 +60,7 @@ module _ (c : tie.After-ascending) where
   sorted : Sorted-heights column (c .ascending .result .many) (c .ascending .result .heights)
   unfolding column
   sorted =
-      sorted-heights column _ _ _ _ (rw (c .before .before .before .before .before .before .before .if1 .left) at (c .before .before .before .before .before .before .before .before .before .result .ensures)) (c .before .before .before .before .before .if2 .left) (c .ascending .ensures .1) (c .ascending .ensures .0)
+      sorted-heights column _ _ _ _ (rw (c .before .before .before .before .before .before .before .if1 .left) at (c .before .before .before .before .before .before .before .before .before .result .ensures)) (c .before .before .before .before .before .if2 .left) (c .ascending .ensures)
 
 mul-if3 : tie.Need-mul-if3
 unfolding column
@@ -78,14 +78,14 @@ unfolding column
 returns-3 c =
     let d = c .before .before .before in
     let says = c .refused3 .ensures in
-    says-refused (column d) _ _ _ (says .0 ∙ sym (few-refused (column d) _ _ (sorted d) (c .before .if3 .taken))) (λ z. absurd (omega (arith, says .0))) (says .1) (says .2)
+    says-refused (column d) _ _ _ (says .0 ∙ sym (few-refused (column d) _ _ (sorted d) (omega (arith, c .before .if3 .taken)))) (λ z. absurd (omega (arith, says .0))) (says .1) (says .2)
 
 middle-requires : tie.Need-middle-requires
 unfolding column
 middle-requires c κs =
     let d = c .before .before .before in
     let f = sorted d .front in
-    (sorted d .few, c .before .if3 .left, record { room = f .room; front = refl; short = f .short })
+    (sorted d .few, omega (arith, c .before .if3 .left), record { room = f .room; front = refl; short = f .short })
 
 correction-requires : tie.Need-correction-requires
 correction-requires c κs = rw (stored (c .before .middle .result) (omega arith)) (c .before .middle .ensures .1)
