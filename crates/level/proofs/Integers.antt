@@ -2,17 +2,20 @@
 -- and what 32 bits read as signed are. Assumes nothing.
 use mathlib.Core.Path.{_≡_, refl, ap}
 use mathlib.Core.Bool.{Bool, true, false, cond}
+use mathlib.Core.List.{[], _∷_}
 use Prim.Native.Nat.{ℕ, zero, suc, _+_, _-_, _/_, _≤_, _<_}
 use native.Mathlib.Omega.{arith}
 use lib.Dec.{ltb}
 use lib.IntN.{ℤ, pos, negsuc, negℤ, subℕ, _+ℤ_, _-ℤ_}
+use lib.ListN.{getD}
 use lib.Signed.{mag, ltZ, quotZ}
 use mir.Syntax.{w64}
 use mir.Val.{SFits, toZ, ofZ}
 use mir.Facts.{toZ-ofZ}
 use borrow.Author.Tests.{ltb-true, ltb-false, lt-ltb, le-ltb}
 use Rattle.column.proofs.Bool.{true-not-false}
-use Rattle.level.specs.Level.{signed, halved}
+use Rattle.column.specs.Value.{Value}
+use Rattle.level.specs.Level.{bits, signed, height, halved}
 use Rattle.level.specs.Ends.{Short}
 
 mag-less : (a b : ℕ) → mag (subℕ a (suc b)) ≤ suc (a + b)
@@ -91,3 +94,9 @@ signed-short b h = go (ltb b 2147483648) (ltb b 4294967296) refl refl
     go true u e f = ltb-true b 2147483648 e
     go false true e f = omega (arith, ltb-false b 2147483648 e)
     go false false e f = omega (arith, ltb-false b 4294967296 f)
+
+-- a height by the four bytes of its value
+pub height-of :
+    (v : Value) (a b c d : ℕ) → a ≡ getD v 0 0 → b ≡ getD v 1 0 → c ≡ getD v 2 0 → d ≡ getD v 3 0 → height (a ∷ b ∷ c ∷ d ∷ []) ≡ height v
+unfolding height bits
+height-of v a b c d first second third fourth = ap signed (omega arith)

@@ -1,5 +1,5 @@
 -- `correction` meets its contract: a level and a height of 32 bits, whose difference 64 bits hold. Assumes nothing.
-use mathlib.Core.Path.{_≡_, _∙_, ap}
+use mathlib.Core.Path.{_≡_, sym, _∙_, ap}
 use mathlib.Core.List.{List, [], _∷_}
 use Prim.Native.Nat.{ℕ, _<_}
 use native.Mathlib.Omega.{arith}
@@ -9,17 +9,16 @@ use lib.Signed.{mag}
 use lib.Seq.{getD-take}
 use borrow.Author.Needs.{needs}
 use mir.Facts.{toZ-ofZ}
-use Rattle.level.specs.Level.{bits, signed, height}
-use Rattle.level.proofs.Integers.{stored, difference-fits}
+use Rattle.level.specs.Level.{height}
+use Rattle.level.proofs.Integers.{stored, difference-fits, height-of}
 use Rattle.level.proofs.heights.correction.Statement.{statement}
 use Rattle.level.proofs.heights.correction.Tie as tie
 
 own-height : (own : List ℕ) → height (getD own 0 0 ∷ getD own 1 0 ∷ getD own 2 0 ∷ getD own 3 0 ∷ []) ≡ height (take 4 own)
-unfolding height bits
-own-height own =
-    ap signed
-    (omega
-    (arith, getD-take 4 own 0 0 (omega arith), getD-take 4 own 1 0 (omega arith), getD-take 4 own 2 0 (omega arith), getD-take 4 own 3 0 (omega arith)))
+own-height own = height-of (take 4 own) _ _ _ _ (at 0 (omega arith)) (at 1 (omega arith)) (at 2 (omega arith)) (at 3 (omega arith))
+  where
+    at : (p : ℕ) → p < 4 → getD own p 0 ≡ getD (take 4 own) p 0
+    at p h = sym (getD-take 4 own p 0 h)
 
 array-read-height : tie.Need-array-read-height
 array-read-height c = search needs

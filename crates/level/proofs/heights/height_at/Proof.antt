@@ -5,23 +5,21 @@ use Prim.Native.Nat.{ℕ, _+_, _*_, _<_}
 use native.Mathlib.Omega.{arith}
 use lib.ListN.{getD, take, drop}
 use Rattle.code.proofs.Part.{part-lent}
-use Rattle.level.specs.Level.{bits, signed, height}
-use Rattle.level.proofs.Integers.{stored}
+use Rattle.level.specs.Level.{height}
+use Rattle.level.proofs.Integers.{stored, height-of}
 use Rattle.level.proofs.heights.height_at.Statement.{statement}
 use Rattle.level.proofs.heights.height_at.Tie as tie
 
-bytes-at : (vs : List ℕ) (j p : ℕ) → p < 4 → getD vs (4 * j + p) 0 ≡ getD (take 4 (drop (j * 4) vs)) p 0
-bytes-at vs j p h = ap (λ (i : ℕ). getD vs i 0) (let e : 4 * j + p ≡ j * 4 + p = omega arith in e) ∙ sym (part-lent (j * 4) 4 vs p h)
+byte-at : (vs : List ℕ) (j p i : ℕ) → p < 4 → i ≡ j * 4 + p → getD vs i 0 ≡ getD (take 4 (drop (j * 4) vs)) p 0
+byte-at vs j p i h e = ap (λ (k : ℕ). getD vs k 0) e ∙ sym (part-lent (j * 4) 4 vs p h)
 
 height-here :
     (vs : List ℕ) (j : ℕ) →
     height (getD vs (4 * j) 0 ∷ getD vs (4 * j + 1) 0 ∷ getD vs (4 * j + 2) 0 ∷ getD vs (4 * j + 3) 0 ∷ []) ≡ height (take 4 (drop (j * 4) vs))
-unfolding height bits
 height-here vs j =
-    let first : getD vs (4 * j) 0 ≡ getD (take 4 (drop (j * 4) vs)) 0 0 = ap (λ (i : ℕ). getD vs i 0) (let e : 4 * j ≡ 4 * j + 0 = omega arith in e) ∙ bytes-at vs j 0 (omega arith) in
-    ap signed
-    (omega
-    (arith, first, bytes-at vs j 1 (omega arith), bytes-at vs j 2 (omega arith), bytes-at vs j 3 (omega arith)))
+    height-of (take 4 (drop (j * 4) vs)) _ _ _ _
+    (byte-at vs j 0 (4 * j) (omega arith) (omega arith)) (byte-at vs j 1 (4 * j + 1) (omega arith) (omega arith))
+    (byte-at vs j 2 (4 * j + 2) (omega arith) (omega arith)) (byte-at vs j 3 (4 * j + 3) (omega arith) (omega arith))
 
 mul-at : tie.Need-mul-at
 mul-at c = omega arith
