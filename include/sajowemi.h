@@ -81,6 +81,13 @@ struct sajowemi_holdings {
     uint8_t confidences[32];
 };
 
+/* The level of the group, and the level less the column's own height, in tenths of a millimetre. */
+struct sajowemi_level {
+    uint32_t answer;
+    int64_t level;
+    int64_t correction;
+};
+
 /* A column with its settings, number, 1 to n, run and own value of w bytes. Refused 1 to 6, with a record of zeros. */
 struct sajowemi_outcome sajowemi_open(uint32_t n, uint32_t t, uint32_t w, uint32_t number, uint16_t run, const uint8_t *own,
                                       size_t own_length);
@@ -96,6 +103,9 @@ struct sajowemi_outcome sajowemi_close(struct sajowemi_column column);
 
 /* What a column in round 4 believes. Refused 1 to 4, 6 or 17, with zeros. */
 struct sajowemi_holdings sajowemi_result(struct sajowemi_column column);
+
+/* The level and the correction of a column in round 4 with w = 4. Refused 1 to 4, 6, 17, 21 or 22, with zeros. */
+struct sajowemi_level sajowemi_level(struct sajowemi_column column);
 
 /* The 2 t check values of a vector of n values, in front of the output. Refused 1 to 3 or 18. */
 uint32_t sajowemi_check_values(uint32_t n, uint32_t t, uint32_t w, const uint8_t *vector, size_t vector_length, uint8_t *output,

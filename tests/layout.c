@@ -33,6 +33,10 @@ SIZE(sajowemi_holdings, 292);
 STANDS(sajowemi_holdings, answer, 0);
 STANDS(sajowemi_holdings, values, 4);
 STANDS(sajowemi_holdings, confidences, 260);
+SIZE(sajowemi_level, 24);
+STANDS(sajowemi_level, answer, 0);
+STANDS(sajowemi_level, level, 8);
+STANDS(sajowemi_level, correction, 16);
 
 static uint32_t number_at(const struct sajowemi_column *column, size_t at) {
     uint32_t number;
@@ -96,10 +100,25 @@ static void ended(void) {
     assert(memcmp(bytes + 5826, own, 2) == 0 && bytes[6082] == 2);
 }
 
+/* Two columns at -5 and -2 tenths: the level is -4, and column 1 goes up by one. */
+static void levelled(void) {
+    const uint8_t heights[] = {255, 255, 255, 251, 255, 255, 255, 254};
+    struct sajowemi_column column = sajowemi_open(2, 0, 4, 1, 9, heights, 4).column;
+    struct sajowemi_level level = sajowemi_level(column);
+
+    assert(level.answer == SAJOWEMI_NOT_FINISHED && level.level == 0 && level.correction == 0);
+    column.round = 4;
+    memcpy(column.values, heights, sizeof heights);
+    memset(column.confidences, 1, 2);
+    level = sajowemi_level(column);
+    assert(level.answer == SAJOWEMI_DONE && level.level == -4 && level.correction == 1);
+}
+
 int main(void) {
     written();
     read();
     ended();
+    levelled();
     puts("layout: the structs stand in C as the compiled calls read and write them");
     return 0;
 }

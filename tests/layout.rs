@@ -5,7 +5,7 @@ mod archive;
 #[path = "shared/record.rs"]
 mod record;
 
-use archive::{Column, Holdings, Outcome, Slot};
+use archive::{Column, Holdings, Level, Outcome, Slot};
 use core::mem::{align_of, offset_of, size_of};
 use record::bytes;
 
@@ -33,6 +33,8 @@ const _: () = {
     );
     assert!(size_of::<Holdings>() == 292 && offset_of!(Holdings, answer) == 0);
     assert!(offset_of!(Holdings, values) == 4 && offset_of!(Holdings, confidences) == 260);
+    assert!(size_of::<Level>() == 24 && offset_of!(Level, answer) == 0);
+    assert!(offset_of!(Level, level) == 8 && offset_of!(Level, correction) == 16);
 };
 
 fn number_at(column: &Column, at: usize) -> u32 {
@@ -90,9 +92,26 @@ fn ended() {
     assert_eq!(bytes(&column)[6082], 2);
 }
 
+/// Two columns at -5 and -2 tenths: the level is -4, and column 1 goes up by one.
+fn levelled() {
+    let heights = [255, 255, 255, 251, 255, 255, 255, 254];
+    let mut column = archive::open(2, 0, 4, 1, 9, &heights[..4]).column;
+    let refused = archive::level(&column);
+    assert_eq!(
+        (refused.answer, refused.level, refused.correction),
+        (17, 0, 0)
+    );
+    column.round = 4;
+    column.values[..8].copy_from_slice(&heights);
+    column.confidences[..2].fill(1);
+    let level = archive::level(&column);
+    assert_eq!((level.answer, level.level, level.correction), (0, -4, 1));
+}
+
 fn main() {
     written();
     read();
     ended();
+    levelled();
     println!("layout: the structs stand in Rust as the compiled calls read and write them");
 }

@@ -1,6 +1,6 @@
 //! The safe crate: an exchange of four good columns, every refusal it can name, and the texts, which are those of the C header.
 
-use sajowemi::{Column, LONGEST_FRAME, Refusal, Repair, Settings, check_values, repair};
+use sajowemi::{Column, LONGEST_FRAME, Level, Refusal, Repair, Settings, check_values, repair};
 
 const FOUR: Settings = Settings { n: 4, t: 1, w: 1 };
 const NUMBERS: [u32; 20] = [
@@ -43,6 +43,28 @@ fn exchange() {
             Err(Refusal::NoOpenRound)
         );
     }
+}
+
+fn level() {
+    let mut alone =
+        Column::open(Settings { n: 1, t: 0, w: 4 }, 1, 7, &1004i32.to_be_bytes()).unwrap();
+    assert_eq!(alone.level(), Err(Refusal::NotFinished));
+    for _ in 1..=3 {
+        alone.close().unwrap();
+    }
+    let (level, correction) = (1004, 0);
+    assert_eq!(alone.level(), Ok(Level { level, correction }));
+    let mut short = Column::open(Settings { n: 1, t: 0, w: 1 }, 1, 7, &[4]).unwrap();
+    for _ in 1..=3 {
+        short.close().unwrap();
+    }
+    assert_eq!(short.level(), Err(Refusal::LevelValueSize));
+    let mut record = *alone.record();
+    record.confidences[0] = 0;
+    assert_eq!(
+        Column::from_record(record).level(),
+        Err(Refusal::LevelTooFewValues)
+    );
 }
 
 fn code() {
@@ -122,6 +144,7 @@ fn texts() {
 
 fn main() {
     exchange();
+    level();
     code();
     refusals();
     texts();

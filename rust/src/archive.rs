@@ -42,8 +42,16 @@ pub struct Holdings {
     pub confidences: [u8; 32],
 }
 
+#[derive(Clone, Copy)]
+#[repr(C)]
+pub struct Level {
+    pub answer: u32,
+    pub level: i64,
+    pub correction: i64,
+}
+
 mod linked {
-    use super::{Column, Holdings, Outcome};
+    use super::{Column, Holdings, Level, Outcome};
 
     unsafe extern "C" {
         pub fn sajowemi_open(
@@ -64,6 +72,7 @@ mod linked {
         pub fn sajowemi_send(column: Column, buffer: *mut u8, buffer_length: usize) -> u32;
         pub fn sajowemi_close(column: Column) -> Outcome;
         pub fn sajowemi_result(column: Column) -> Holdings;
+        pub fn sajowemi_level(column: Column) -> Level;
         pub fn sajowemi_check_values(
             n: u32,
             t: u32,
@@ -107,6 +116,10 @@ pub fn close(column: &Column) -> Outcome {
 
 pub fn result(column: &Column) -> Holdings {
     unsafe { linked::sajowemi_result(*column) }
+}
+
+pub fn level(column: &Column) -> Level {
+    unsafe { linked::sajowemi_level(*column) }
 }
 
 pub fn check_values(n: u32, t: u32, w: u32, vector: &[u8], output: &mut [u8]) -> u32 {

@@ -12,6 +12,7 @@
 //!     column.close()?;
 //! }
 //! let beliefs = column.result()?;
+//! motor.go(column.level()?.correction);
 //! ```
 #![no_std]
 
@@ -102,6 +103,26 @@ impl Column {
             held,
         })
     }
+
+    /// The level of the group and the column's correction, of values that are heights.
+    pub fn level(&self) -> Result<Level, Refusal> {
+        let archive::Level {
+            answer,
+            level,
+            correction,
+        } = archive::level(&self.record);
+        Refusal::from_answer(answer)?;
+        Ok(Level { level, correction })
+    }
+}
+
+/// What the motors act on, in tenths of a millimetre.
+#[derive(Clone, Copy, Debug, PartialEq, Eq)]
+pub struct Level {
+    /// The level of the group.
+    pub level: i64,
+    /// The level less the column's own height: how far to go, down where it is negative.
+    pub correction: i64,
 }
 
 /// The values of all columns, each with a confidence.

@@ -3,9 +3,11 @@
 ghost use Rattle.code.specs.Entry.{Checks-says};
 ghost use Rattle.repair.specs.Entry.{Repair-says};
 ghost use Rattle.column.specs.Entry.{Open-says, Take-says, Send-says, Close-says, Result-says};
+ghost use Rattle.level.specs.Entry.{Level-says};
 use column::record::Column;
 use column::record::Holdings;
 use column::record::Outcome;
+use level::answer::Level;
 
 #[no_mangle]
 pub extern "C" fn sajowemi_open(
@@ -47,6 +49,13 @@ pub extern "C" fn sajowemi_result(column: Column) -> Holdings
     ensures { λ r. ⌜ Result-says column (r .answer) (r .values) (r .confidences) ⌝ }
 {
     column::result(column)
+}
+
+#[no_mangle]
+pub extern "C" fn sajowemi_level(column: Column) -> Level
+    ensures { λ r. ⌜ Level-says column (r .answer) (r .level) (r .correction) ⌝ }
+{
+    level::level(column)
 }
 
 #[no_mangle]
