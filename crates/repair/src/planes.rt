@@ -130,7 +130,7 @@ fn errors_at_places(
             p,
             &mut weighted,
         );
-        if t < count_wrong(&weighted, p, many) {
+        if t + 1 <= count_wrong(&weighted, p, many) {
             return Errors {
                 found: false,
                 weighted: weighted,
