@@ -29,6 +29,7 @@ pub mod Located
 pub mod PlaneLocators
 pub mod PlaneErrors
 pub mod PlaneDecoder
+pub mod OneError
 pub mod Answer
 pub mod Entry
 pub mod OwnChecks

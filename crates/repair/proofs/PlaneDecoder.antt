@@ -54,14 +54,16 @@ pub decoded :
     ((i p : ℕ) → i < check-count s → planes ≤ p → p < 8 → getD sums (8 * i + p) 0 ≡ 0) → Counted planes s sums weighted → Explained-as e s sums weighted →
     Decoded-as e planes s sums weighted
 unfolding Decoded-as
-decoded true planes s sums weighted h z d x = (
-  d .errors,
-  λ p l.
-      record {
-        few = d .few p l;
-        sums = λ i k. ap (λ (a : ℕ). plus a (error-sum s i 0 (lane p (s .n + check-count s) weighted))) (lane-at p (check-count s) sums i k) ∙ explained-planes s sums weighted true x refl p (omega arith) i k;
-      },
-)
+decoded true planes s sums weighted h z d x =
+    record {
+      long = d .errors .long;
+      bytes = d .errors .bytes;
+      each = λ p l.
+          record {
+            few = d .few p l;
+            sums = λ i k. ap (λ (a : ℕ). plus a (error-sum s i 0 (lane p (s .n + check-count s) weighted))) (lane-at p (check-count s) sums i k) ∙ explained-planes s sums weighted true x refl p (omega arith) i k;
+          };
+    }
 decoded false planes s sums weighted h z d x =
     let u = unexplained-plane s sums weighted false x refl planes z (λ j p g l k. d .errors .others j p l k) in (
       u .0,

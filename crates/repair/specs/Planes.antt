@@ -46,9 +46,13 @@ pub record Decodes (s : Settings) (S : ℕ → ℕ) : Type 0 where
   pub short : massey S (check-count s) .size ≤ s .t
   pub explained : (weighted : List ℕ) → Located s S weighted → Explained s S weighted
 
+-- weighted errors that explain the power sums of the first planes
+pub record Explains (planes : ℕ) (s : Settings) (sums weighted : List ℕ) : Type 0 where
+  pub long : length weighted ≡ 416
+  pub bytes : (i : ℕ) → getD weighted i 0 < 256
+  pub each : (p : ℕ) → p < planes → Explained s (plane-sums p (check-count s) sums) (lane p (s .n + check-count s) weighted)
+
 -- errors that explain every plane's sums, or a plane that does not decode
 unfoldable pub Decoded-as : (found : Bool) → (planes : ℕ) → Settings → (sums weighted : List ℕ) → Type 0
-Decoded-as true planes s sums weighted =
-    Weighted planes s sums weighted
-    × ((p : ℕ) → p < planes → Explained s (plane-sums p (check-count s) sums) (lane p (s .n + check-count s) weighted))
+Decoded-as true planes s sums weighted = Explains planes s sums weighted
 Decoded-as false planes s sums weighted = (p : ℕ) × (p < planes) × (Decodes s (plane-sums p (check-count s) sums) → ⊥)

@@ -5,7 +5,7 @@ use native.Mathlib.Omega.{arith}
 use lib.ListN.{length}
 use borrow.Author.Needs.{needs}
 use Rattle.code.specs.Lanes.{Products-added}
-use Rattle.code.proofs.Multiples.{products-none, products-more, products-to}
+use Rattle.code.proofs.Multiples.{doubled-byte, products-none, products-more, products-to}
 use Rattle.code.proofs.lanes.add_products.Statement.{statement}
 use Rattle.code.proofs.lanes.add_products.Tie as tie
 
@@ -15,17 +15,17 @@ Inv-loop value constants rows₀ low high j₀ rows j = (j ≤ length constants)
 abbrev μ-loop : tie.MeasureT-loop
 μ-loop value constants rows₀ low high j₀ rows j = length constants - j
 
-multiples-requires : tie.Need-multiples-requires Inv-loop μ-loop
-multiples-requires c κs = search needs
+first-rows-requires : tie.Need-first-rows-requires Inv-loop μ-loop
+first-rows-requires c κs = search needs
 
-sixteen-times-requires : tie.Need-sixteen-times-requires Inv-loop μ-loop
-sixteen-times-requires c κs = search needs
+multiply-requires : tie.Need-multiply-requires Inv-loop μ-loop
+multiply-requires c κs = c .before .first-rows .ensures .long
 
-slice-aggregate-multiples : tie.Need-slice-aggregate-multiples Inv-loop μ-loop
-slice-aggregate-multiples c = omega arith
+sixteenth-rows-requires : tie.Need-sixteenth-rows-requires Inv-loop μ-loop
+sixteenth-rows-requires c κs = search needs
 
-multiples-requires-2 : tie.Need-multiples-requires-2 Inv-loop μ-loop
-multiples-requires-2 c κs = search needs
+multiply-requires-2 : tie.Need-multiply-requires-2 Inv-loop μ-loop
+multiply-requires-2 c κs = c .before .sixteenth-rows .ensures .long
 
 loop-holds : tie.Need-loop-holds Inv-loop μ-loop
 loop-holds c = (omega arith, products-none _ _ _)
@@ -57,11 +57,13 @@ loop-less c = omega arith
 
 loop-again : tie.Need-loop-again Inv-loop μ-loop
 loop-again c =
-    let l = c .before .before .before .before .before .before .before .before .before .before .before .before in (
+    let l = c .before .before .before .before .before .before .before .before .before .before .before .before in
+    let byte = c .before .before .before .before .before .before .before .before .before .before .before .before .before .before .before .before .before .before .before .before .before .before .shared-slice-known .given in (
       omega arith,
-      products-more _ _ _ _ _ _ _ _ _ _ (λ p. c .before .before .before .before .before .before .before .before .before .before .before .before .before .before .before .before .before .before .before .before .shared-slice-known .given p .fits) (c .before .before .before .before .before .before .before .before .before .before .shared-slice-known3 .given (l .loop .j) .fits)
-          (c .before .before .before .before .before .before .before .before .before .before .before .before .before .before .before .before .before .multiples .ensures) (l .before .multiples2 .ensures) (c .before .before .before .before .before .before .before .before .before .before .before .before .before .before .before .sixteen-times .ensures .new) (l .loop .inv .1)
-          (c .before .before .before .before .before .before .before .add-multiple .ensures) (c .before .before .add-multiple2 .ensures),
+      products-more _ _ _ _ _ _ _ _ _ (λ p. byte p .fits) (c .before .before .before .before .before .before .before .before .before .before .shared-slice-known3 .given (l .loop .j) .fits)
+          (c .before .before .before .before .before .before .before .before .before .before .before .before .before .before .before .before .before .multiply .ensures .1 _ (λ p. byte p .fits) (c .before .before .before .before .before .before .before .before .before .before .before .before .before .before .before .before .before .before .before .first-rows .ensures))
+          (l .before .multiply2 .ensures .1 _ (λ p. doubled-byte _) (c .before .before .before .before .before .before .before .before .before .before .before .before .before .before .before .sixteenth-rows .ensures))
+          (l .loop .inv .1) (c .before .before .before .before .before .before .before .add-multiple .ensures) (c .before .before .add-multiple2 .ensures),
     )
 
 same-length : tie.Need-same-length Inv-loop μ-loop
@@ -76,10 +78,10 @@ add-products-spec =
     (tie.spec
     Inv-loop
     μ-loop
-    multiples-requires
-    sixteen-times-requires
-    slice-aggregate-multiples
-    multiples-requires-2
+    first-rows-requires
+    multiply-requires
+    sixteenth-rows-requires
+    multiply-requires-2
     loop-holds
     shared-slice-read-c
     cast-c

@@ -1,4 +1,4 @@
--- `add_value` meets its contract: the row read lies below the row written. Assumes nothing.
+-- `add_row` meets its contract: the rows read lie below the row written. Assumes nothing.
 use mathlib.Core.Path.{_≡_, refl, _∙_, ap₂}
 use Prim.Native.Nat.{_+_, _*_, _-_, _≤_}
 use native.Mathlib.Omega.{arith}
@@ -7,14 +7,14 @@ use borrow.Author.Needs.{needs}
 use Rattle.field.specs.Field.{plus}
 use Rattle.code.specs.Array.{Written}
 use Rattle.code.proofs.Written.{written-none, written-more, written-to}
-use Rattle.code.proofs.lanes.add_value.Statement.{statement}
-use Rattle.code.proofs.lanes.add_value.Tie as tie
+use Rattle.code.proofs.lanes.add_row.Statement.{statement}
+use Rattle.code.proofs.lanes.add_row.Tie as tie
 
 abbrev Inv-loop : tie.InvT-loop
-Inv-loop rows₀ value k p₀ rows p = (p ≤ 8) × Written (8 * k + 8) p (λ q. plus (getD rows₀ (8 * k + q) 0) (getD value q 0)) rows₀ rows
+Inv-loop rows₀ w k p₀ rows p = (p ≤ 8) × Written (8 * (w + k)) p (λ q. plus (getD rows₀ (8 * w + q) 0) (getD rows₀ (8 * k + q) 0)) rows₀ rows
 
 abbrev μ-loop : tie.MeasureT-loop
-μ-loop rows₀ value k p₀ rows p = 8 - p
+μ-loop rows₀ w k p₀ rows p = 8 - p
 
 loop-holds : tie.Need-loop-holds Inv-loop μ-loop
 loop-holds c = (omega arith, written-none _ _ _)
@@ -28,17 +28,23 @@ add-sum c = omega arith
 element-copy-out-sum : tie.Need-element-copy-out-sum Inv-loop μ-loop
 element-copy-out-sum c = omega arith
 
-shared-slice-read-sum : tie.Need-shared-slice-read-sum Inv-loop μ-loop
-shared-slice-read-sum c = omega arith
+mul-sum-2 : tie.Need-mul-sum-2 Inv-loop μ-loop
+mul-sum-2 c = omega arith
+
+add-sum-2 : tie.Need-add-sum-2 Inv-loop μ-loop
+add-sum-2 c = omega arith
+
+element-copy-out-sum-2 : tie.Need-element-copy-out-sum-2 Inv-loop μ-loop
+element-copy-out-sum-2 c = omega arith
 
 sum-requires : tie.Need-sum-requires Inv-loop μ-loop
 sum-requires c κs = search needs
 
-mul-rows : tie.Need-mul-rows Inv-loop μ-loop
-mul-rows c = omega arith
-
 add-rows : tie.Need-add-rows Inv-loop μ-loop
 add-rows c = omega arith
+
+mul-rows : tie.Need-mul-rows Inv-loop μ-loop
+mul-rows c = omega arith
 
 add-rows-2 : tie.Need-add-rows-2 Inv-loop μ-loop
 add-rows-2 c = omega arith
@@ -56,13 +62,13 @@ loop-again : tie.Need-loop-again Inv-loop μ-loop
 loop-again c =
     let d = c .before .before .before .before in
     let w = d .loop .inv .1 in
-    (omega arith, written-more _ _ _ _ _ _ w (omega arith) (c .sum .ensures ∙ ap₂ plus (w .before _ (omega arith)) refl))
+    (omega arith, written-more _ _ _ _ _ _ w (omega arith) (c .sum .ensures ∙ ap₂ plus (w .before _ (omega arith)) (w .before _ (omega arith))))
 
 returns : tie.Need-returns Inv-loop μ-loop
 returns c = written-to (let e : c .before .loop .p ≡ 8 = omega arith in e) (c .before .loop .inv .1)
 
-pub add-value-spec : {M : Type 1} → statement M
-add-value-spec =
+pub add-row-spec : {M : Type 1} → statement M
+add-row-spec =
     tie.close
     (tie.spec
     Inv-loop
@@ -71,10 +77,12 @@ add-value-spec =
     mul-sum
     add-sum
     element-copy-out-sum
-    shared-slice-read-sum
+    mul-sum-2
+    add-sum-2
+    element-copy-out-sum-2
     sum-requires
-    mul-rows
     add-rows
+    mul-rows
     add-rows-2
     element-write-rows
     add-p
