@@ -13,3 +13,5 @@ pub mod Cases
 pub mod Quick
 pub mod Listing
 pub mod Example
+pub mod Writing
+pub mod Following
