@@ -15,3 +15,5 @@ pub mod Listing
 pub mod Example
 pub mod Writing
 pub mod Following
+pub mod ByteRecord
+pub mod Sending
