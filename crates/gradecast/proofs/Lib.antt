@@ -17,3 +17,5 @@ pub mod Writing
 pub mod Following
 pub mod ByteRecord
 pub mod Sending
+pub mod BuiltGroup
+pub mod BuiltExample
