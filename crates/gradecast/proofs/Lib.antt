@@ -13,3 +13,9 @@ pub mod Cases
 pub mod Quick
 pub mod Listing
 pub mod Example
+pub mod Writing
+pub mod Following
+pub mod ByteRecord
+pub mod Sending
+pub mod BuiltGroup
+pub mod BuiltExample
