@@ -1,0 +1,6 @@
+pub mod Said
+pub mod Command
+pub mod File
+pub mod Group
+pub mod Listing
+pub mod Entry
