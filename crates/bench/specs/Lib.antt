@@ -4,3 +4,4 @@ pub mod File
 pub mod Group
 pub mod Listing
 pub mod Entry
+pub mod Printing
