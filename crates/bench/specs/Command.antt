@@ -10,7 +10,7 @@ use Rattle.column.specs.Value.{Value}
 use Rattle.column.specs.Frame.{operand-size}
 use Rattle.column.specs.Record.{is-taken}
 use Rattle.column.specs.Refusal.{first-of, blank-refusal}
-use Rattle.bench.specs.Said.{Message, Said, with-own, with-message, is-good, message-of}
+use Rattle.bench.specs.Said.{Message, message, Said, with-own, with-message, is-good, message-of}
 
 -- the command byte; past the end of the file 0, which is no command
 unfoldable pub command-in : List ℕ → ℕ
@@ -52,8 +52,8 @@ form-refusal f bs =
 -- the message of a command 2, which is one of round one, or 3
 unfoldable pub message-in : Settings → List ℕ → Message
 message-in s bs =
-    cond (eqb (command-in bs) 2) (record { round = 1; from = getD bs 1 0; to = getD bs 2 0; operand = body-in s bs })
-    (record { round = getD bs 1 0; from = getD bs 2 0; to = getD bs 3 0; operand = body-in s bs })
+    cond (eqb (command-in bs) 2) (message 1 (getD bs 1 0) (getD bs 2 0) (body-in s bs))
+    (message (getD bs 1 0) (getD bs 2 0) (getD bs 3 0) (body-in s bs))
 
 -- whether a column is one of 1 to n
 unfoldable pub is-column : Settings → (column : ℕ) → Bool

@@ -5,3 +5,4 @@ pub mod Group
 pub mod Listing
 pub mod Entry
 pub mod Printing
+pub mod Places

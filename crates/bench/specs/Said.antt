@@ -21,6 +21,9 @@ pub record Message : Type 0 where
   pub to : ℕ
   pub operand : List ℕ
 
+unfoldable pub message : (round from to : ℕ) → (operand : List ℕ) → Message
+message m k l x = record { round = m; from = k; to = l; operand = x }
+
 -- what the commands read so far have said, the last one first
 pub record Said : Type 0 where
   pub settings : Settings
