@@ -1,3 +1,5 @@
 pub mod Text
 pub mod Decimal
 pub mod Standing
+pub mod Faults
+pub mod Readings

@@ -11,12 +11,14 @@ use lib.ListN.{length, getD, set, take, drop, replicate, List·getD-eq-default}
 use lib.Seq.{getD-set-same, getD-set-other}
 use borrow.Author.Tests.{eqb-true, eqb-false, eq-eqb, ne-eqb}
 use Rattle.code.proofs.Bytes.{and-split}
-use Rattle.code.specs.Settings.{Settings}
+use Rattle.code.specs.Settings.{Settings, settings, settings-refusal}
+use Rattle.code.proofs.Word.{sizes}
 use Rattle.column.specs.Refusal.{open-refusal}
 use Rattle.column.specs.Record.{is-taken}
 use Rattle.column.proofs.Bool.{true-not-false}
-use Rattle.bench.specs.Said.{Own, Message, message, own-of, message-of}
-use Rattle.bench.specs.Places.{Stands, message-index}
+use Rattle.bench.specs.declared.places.Places.{Places}
+use Rattle.bench.specs.Said.{Said, Own, Message, message, own-of, message-of}
+use Rattle.bench.specs.Places.{Stands, message-index, Located}
 
 pub stands-taken : (file : List ℕ) (size at : ℕ) (x : Option (List ℕ)) → Stands file size at x → not (eqb at 0) ≡ is-taken x
 unfolding Stands is-taken
@@ -127,3 +129,23 @@ message-more file sizes at x messages places range fits new m k l other old = go
         let tests : (eqb (x .round) m && (eqb (x .from) k && eqb (x .to) l)) ≡ true = rw (same .0, same .1, same .2, eq-eqb (x .round) (x .round) refl, eq-eqb (x .from) (x .from) refl, eq-eqb (x .to) (x .to) refl) refl in
         true-not-false (sym tests ∙ e)))
         old
+
+-- settings that are not turned down are small
+pub record Small (p : Places) : Type 0 where
+  pub some-columns : 1 ≤ p .n
+  pub few-columns : p .n ≤ 32
+  pub few-bad : p .t ≤ 10
+  pub some-bytes : 1 ≤ p .w
+  pub few-bytes : p .w ≤ 8
+
+pub small : (file : List ℕ) (p : Places) (f : Said) → Located file p f → Small p
+unfolding settings
+small file p f h =
+    let s = sizes (settings (p .n) (p .t) (p .w)) (ap settings-refusal (sym (h .settings)) ∙ h .fine) in
+    record {
+      some-columns = s .some-columns;
+      few-columns = s .few-columns;
+      few-bad = omega (arith, s .few-columns, s .few-bad);
+      some-bytes = s .some-bytes;
+      few-bytes = s .few-bytes;
+    }

@@ -71,8 +71,8 @@ message-refusal f m k l =
     (cond (is-good f k) 20 (cond (not (is-good f l)) 20 (cond (is-taken (message-of (f .messages) m k l)) 20 0))))
 
 -- 20, of checks: a round other than 2 and 3
-unfoldable pub checks-round-refusal : (round : ℕ) → ℕ
-checks-round-refusal m = cond (eqb m 2 || eqb m 3) 0 20
+unfoldable pub checks-round-refusal : (command round : ℕ) → ℕ
+checks-round-refusal c m = cond (eqb c 3) (cond (eqb m 2 || eqb m 3) 0 20) 0
 
 -- 20: operand not allowed
 unfoldable pub operand-refusal : Said → List ℕ → ℕ
@@ -81,7 +81,7 @@ operand-refusal f bs =
     let m = message-in (f .settings) bs in
     cond (eqb c 15) 0
     (cond (eqb c 4) (column-refusal f (getD bs 1 0))
-    (first-of (cond (eqb c 3) (checks-round-refusal (m .round)) 0) (message-refusal f (m .round) (m .from) (m .to))))
+    (first-of (checks-round-refusal c (m .round)) (message-refusal f (m .round) (m .from) (m .to))))
 
 -- 6: own value blank
 unfoldable pub value-refusal : Said → List ℕ → ℕ

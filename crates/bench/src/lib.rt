@@ -1,3 +1,4 @@
 // A whole group from one file: the good columns run by the calls of the column crate, the bad ones say what the file says.
+mod commands;
 mod places;
 mod printing;
