@@ -3,3 +3,4 @@ pub mod Decimal
 pub mod Standing
 pub mod Faults
 pub mod Readings
+pub mod Steps

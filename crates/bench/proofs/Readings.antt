@@ -156,3 +156,8 @@ message-read file f at inside e no-own no-end =
 pub same-message : {m k l : ℕ} {x : Message} → m ≡ x .round → k ≡ x .from → l ≡ x .to → message m k l (x .operand) ≡ x
 unfolding message
 same-message {m} {k} {l} {x} a b c = rw (a, b, c) refl
+
+-- a command that is not turned down is all there
+pub command-fits :
+    (file : List ℕ) (f : Said) (at : ℕ) → at ≤ length file → command-refusal f (drop at file) ≡ 0 → at + command-size (f .settings) (command-in (drop at file)) ≤ length file
+command-fits file f at inside e = omega (arith, form-fits f (drop at file) (passed f (drop at file) e .form) .1, length-drop at file)

@@ -6,3 +6,4 @@ pub mod Listing
 pub mod Entry
 pub mod Printing
 pub mod Places
+pub mod Reading

@@ -2,3 +2,4 @@
 mod commands;
 mod places;
 mod printing;
+mod reading;
