@@ -43,3 +43,14 @@ decimal-short n = go (ltb n 10) (ltb n 100)
     go true b = omega arith
     go false true = omega arith
     go false false = omega arith
+
+pub one-short : (n : ℕ) → n < 10 → length (decimal n) ≤ 1
+one-short n h = omega (arith, one-long n h)
+
+pub two-short : (n : ℕ) → n < 100 → length (decimal n) ≤ 2
+unfolding decimal digit
+two-short n h = rw (lt-ltb n 100 h) (go (ltb n 10))
+  where
+    go : (a : Bool) → length (cond a (digit n) (digit (n / 10) ++ digit (n % 10))) ≤ 2
+    go true = omega arith
+    go false = omega arith

@@ -4,3 +4,4 @@ pub mod Standing
 pub mod Faults
 pub mod Readings
 pub mod Steps
+pub mod Wording

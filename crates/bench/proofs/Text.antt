@@ -57,6 +57,39 @@ puts {at} {p} {q} {a} {b} {old} {mid} {new} h x y =
           y .bytes ∙ ap (λ (k : ℕ). put-at k b mid) (x .behind) ∙ ap (put-at (at + length a) b) (x .bytes) ∙ put-then at a b old h;
     }
 
+-- room for so many bytes more behind a text
+pub next-fits : {at p : ℕ} {a old mid : List ℕ} (k : ℕ) → Put at a old p mid → at + length a + k ≤ length old → p + k ≤ length mid
+next-fits {at} {p} {a} {old} {mid} k x room =
+    omega (arith, x .behind, ap length (x .bytes) ∙ put-length at a old (omega arith), room)
+
+-- nothing put
+pub put-nothing : (at : ℕ) (old : List ℕ) → Put at [] old at old
+put-nothing at old = record { behind = omega arith; bytes = sym (put-none at old) }
+
 -- the same text under another name
 pub put-alike : {at q : ℕ} {a b old new : List ℕ} → a ≡ b → Put at a old q new → Put at b old q new
 put-alike {at} {q} {a} {b} {old} {new} e x = rw e at x
+
+-- a text of which a part is put, and the rest of it
+pub record Left (at : ℕ) (text old rest : List ℕ) (next : ℕ) (new : List ℕ) : Type 0 where
+  pub done : List ℕ
+  pub whole : done ++ rest ≡ text
+  pub put : Put at done old next new
+
+pub left-all : (at : ℕ) (text old : List ℕ) → Left at text old text at old
+left-all at text old = record { done = []; whole = refl; put = put-nothing at old }
+
+pub left-room : {at next : ℕ} {text old rest new : List ℕ} → Left at text old rest next new → at + length text ≤ length old → next + length rest ≤ length new
+left-room {at} {next} {text} {old} {rest} {new} x room =
+    let total = sym (length-append (x .done) rest) ∙ ap length (x .whole) in
+    next-fits (length rest) (x .put) (omega (arith, room, total))
+
+pub left-more :
+    {at next last : ℕ} {text old rest new newer : List ℕ} (a more : List ℕ) → at ≤ length old → rest ≡ a ++ more → Left at text old rest next new →
+    Put next a new last newer → Left at text old more last newer
+left-more {at} {next} {last} {text} {old} {rest} {new} {newer} a more h e x y =
+    record { done = x .done ++ a; whole = append-assoc (x .done) a more ∙ ap (_++_ (x .done)) (sym e) ∙ x .whole; put = puts h (x .put) y }
+
+pub left-none : {at next : ℕ} {text old rest new : List ℕ} → rest ≡ [] → Left at text old rest next new → Put at text old next new
+left-none {at} {next} {text} {old} {rest} {new} e x =
+    put-alike (sym (append-nil (x .done)) ∙ ap (_++_ (x .done)) (sym e) ∙ x .whole) (x .put)

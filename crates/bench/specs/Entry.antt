@@ -1,7 +1,7 @@
 -- What the bench answers and leaves in the lent output. Assumes nothing: these are definitions.
 use mathlib.Core.Path.{_≡_}
 use mathlib.Core.List.{List}
-use Prim.Native.Nat.{ℕ, _≤_, _<_}
+use Prim.Native.Nat.{ℕ, _+_, _*_, _≤_, _<_}
 use lib.ListN.{length}
 use Rattle.code.specs.Entry.{in-front}
 use Rattle.column.specs.Record.{Rec}
@@ -9,9 +9,10 @@ use Rattle.bench.specs.File.{Told, refused, said, file-told}
 use Rattle.bench.specs.Group.{Group-run}
 use Rattle.bench.specs.Listing.{listing, refused-line}
 
--- room for every listing: 14 bytes for the settings, and 1,091 for each of 32 lines of 32 values of eight bytes with three digits
+-- room for every listing: 14 bytes for the settings, and for each of 32 lines 2 for the number, 36 for each of 32 columns' values of eight
+-- bytes with three digits, and 1 for the line feed
 unfoldable pub listing-room : ℕ
-listing-room = 34926
+listing-room = 14 + 32 * (2 + 32 * 36 + 1)
 
 -- the output for what a file comes to: "refused N" and nothing else, or the listing of the group's run
 unfoldable pub Printed : Told → (text : List ℕ) → Type 0

@@ -7,3 +7,4 @@ pub mod Entry
 pub mod Printing
 pub mod Places
 pub mod Reading
+pub mod Finished

@@ -47,7 +47,8 @@ column-line k hs = decimal k ++ (holdings-text hs ++ (10 ∷ []))
 -- "group n t w"
 unfoldable pub group-line : Settings → List ℕ
 group-line s =
-    (103 ∷ 114 ∷ 111 ∷ 117 ∷ 112 ∷ 32 ∷ []) ++ (decimal (s .n) ++ (32 ∷ decimal (s .t)) ++ (32 ∷ decimal (s .w)) ++ (10 ∷ []))
+    (103 ∷ 114 ∷ 111 ∷ 117 ∷ 112 ∷ 32 ∷ [])
+    ++ (decimal (s .n) ++ ((32 ∷ decimal (s .t)) ++ ((32 ∷ decimal (s .w)) ++ (10 ∷ []))))
 
 -- the lines of the good columns among so many from column k on
 unfoldable pub column-lines : Said → (held : ℕ → List Held) → (many k : ℕ) → List ℕ

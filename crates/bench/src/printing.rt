@@ -48,3 +48,12 @@ pub fn put_decimal(output: &mut [u8], at: usize, number: u32) -> usize
     let third = put_digit(output, second, number / 10 % 10);
     put_digit(output, third, number % 10)
 }
+
+// A byte, and a number behind it.
+pub fn put_marked(output: &mut [u8], at: usize, mark: u8, number: u32) -> usize
+    requires { ⌜ (number < 1000) × (at + length (mark ∷ decimal number) ≤ length (now output)) ⌝ }
+    ensures { λ r. ⌜ Put at (mark ∷ decimal number) (now (output .entry)) r (now (output .exit)) ⌝ }
+{
+    let next = put_byte(output, at, mark);
+    put_decimal(output, next, number)
+}
