@@ -5,3 +5,6 @@ pub mod Faults
 pub mod Readings
 pub mod Steps
 pub mod Wording
+pub mod Hearing
+pub mod Exchanged
+pub mod Output

@@ -8,6 +8,7 @@ use native.Mathlib.Omega.{arith}
 use lib.ListN.{length, set, take, drop, length-append, length-drop, take-append-drop}
 use lib.Seq.{length-take-le, take-at, drop-at, drop-drop, set-split}
 use Rattle.code.specs.Entry.{in-front}
+use Rattle.column.proofs.Front.{front-value}
 use Rattle.bench.specs.Printing.{put-at, Put}
 
 -- what stands before the place and the text are as long as the place behind
@@ -93,3 +94,7 @@ left-more {at} {next} {last} {text} {old} {rest} {new} {newer} a more h e x y =
 pub left-none : {at next : ℕ} {text old rest new : List ℕ} → rest ≡ [] → Left at text old rest next new → Put at text old next new
 left-none {at} {next} {text} {old} {rest} {new} e x =
     put-alike (sym (append-nil (x .done)) ∙ ap (_++_ (x .done)) (sym e) ∙ x .whole) (x .put)
+
+-- a text at the front, read again
+pub put-taken : {q : ℕ} {text old new : List ℕ} → Put 0 text old q new → take (length text) new ≡ text
+put-taken {q} {text} {old} {new} x = ap (take (length text)) (x .bytes ∙ put-front text old) ∙ front-value text old (length text) refl

@@ -8,3 +8,4 @@ pub mod Printing
 pub mod Places
 pub mod Reading
 pub mod Finished
+pub mod Running
