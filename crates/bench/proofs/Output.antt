@@ -1,16 +1,20 @@
 -- The output by what a file comes to: a refusal has a number that is not 0, and what is printed of a run depends only on the values and
--- confidences at its end. Assumes nothing.
+-- confidences at its end. The answer stays within the output. Assumes nothing.
 use mathlib.Core.Path.{_≡_, refl, sym, _∙_, ap, ap₂}
 use mathlib.Core.Bool.{Bool, true, false, cond}
 use mathlib.Core.List.{List, [], _++_}
 use Prim.Native.Nat.{ℕ, zero, suc, _≤_}
 use native.Mathlib.Omega.{arith}
+use lib.Dec.{ltb}
+use lib.ListN.{length, drop, length-append}
+use borrow.Author.Tests.{ltb-true, ltb-false}
+use Rattle.code.specs.Entry.{in-front}
 use Rattle.column.specs.Record.{Rec, Held}
 use Rattle.column.specs.declared.record.Column.{Column}
 use Rattle.bench.specs.Said.{Said, is-good}
 use Rattle.bench.specs.File.{Told, refused, said}
 use Rattle.bench.specs.Listing.{column-line, group-line, column-lines, listing, refused-line}
-use Rattle.bench.specs.Entry.{Printed}
+use Rattle.bench.specs.Entry.{listing-room, Printed, Bench-says}
 use Rattle.bench.specs.Places.{Located}
 use Rattle.bench.specs.Reading.{Parsed-as}
 use Rattle.bench.specs.Finished.{record-of}
@@ -51,3 +55,14 @@ run-printed t f columns e ran =
       ap (_++_ (group-line (f .settings)))
           (lines-alike f (λ k. record-of columns k .held) (λ k. ran .records 4 k .held) (f .settings .n) 1 (λ j. ap (λ (r : Rec). r .held) (sym (ran .last j)))),
     )
+
+-- what the bench answers is never more than the output has
+pub answer-within : (file output : List ℕ) (answer : ℕ) (output-now : List ℕ) → Bench-says file output answer output-now → answer ≤ length output-now
+unfolding in-front
+answer-within file output answer output-now says = go (ltb (length output) listing-room) refl
+  where
+    go : (q : Bool) → ltb (length output) listing-room ≡ q → answer ≤ length output-now
+    go true e = omega (arith, says .short (ltb-true _ _ e) .0)
+    go false e =
+        let p = says .printed (ltb-false _ _ e) in
+        omega (arith, p .2, ap length (p .3) ∙ length-append (p .0) (drop (length (p .0)) output))
