@@ -1,0 +1,76 @@
+-- `bench` meets its contract: too little room, a refusal, or the listing of the run. Assumes nothing.
+use mathlib.Core.Path.{_≡_, refl, sym, _∙_}
+use native.Mathlib.Omega.{arith}
+use borrow.Author.Needs.{needs}
+use lib.ListN.{length}
+use Rattle.bench.specs.Entry.{listing-room}
+use Rattle.bench.specs.Places.{Places-of}
+use Rattle.bench.proofs.Text.{put-front}
+use Rattle.bench.proofs.Output.{answer-small, refused-printed, said-located, run-printed}
+use Rattle.bench.proofs.bench.Statement.{statement}
+use Rattle.bench.proofs.bench.Tie as tie
+
+returns : tie.Need-returns
+unfolding listing-room
+returns c = record { short = λ h. (refl, refl); printed = λ h. absurd (omega (arith, h, c .if1 .taken)) }
+
+parse-requires : tie.Need-parse-requires
+parse-requires c κs = search needs
+
+put-refused-requires : tie.Need-put-refused-requires
+unfolding listing-room
+put-refused-requires c κs = omega (arith, answer-small _ _ _ _ (c .before .before .before .parse .ensures), c .before .before .before .before .if1 .left)
+
+same-length : tie.Need-same-length
+same-length c = search needs
+
+returns-2 : tie.Need-returns-2
+unfolding listing-room
+returns-2 c =
+    let put = c .before .before .put-refused .ensures in
+    record {
+      short = λ h. absurd (omega (arith, h, c .before .before .before .before .before .before .before .if1 .left));
+      printed =
+          λ h. (
+            _,
+            refused-printed _ _ _ _ (c .before .before .before .before .before .before .parse .ensures) (c .before .before .before .before .if2 .taken),
+            put .behind ∙ omega arith,
+            put .bytes ∙ put-front _ _,
+          );
+    }
+
+run-requires : tie.Need-run-requires
+unfolding Places-of
+run-requires c κs = let s = said-located _ _ _ _ (c .before .before .before .parse .ensures) (c .before .if2 .left) in (s .0, s .2)
+
+put-listing-requires : tie.Need-put-listing-requires
+unfolding listing-room
+put-listing-requires c κs = let s = said-located _ _ _ _ (c .before .before .before .before .before .parse .ensures) (c .before .before .before .if2 .left) in ((_, s .0, s .2), omega (arith, c .before .before .before .before .before .before .if1 .left))
+
+same-length-2 : tie.Need-same-length-2
+same-length-2 c = search needs
+
+returns-3 : tie.Need-returns-3
+unfolding listing-room
+returns-3 c =
+    let s = said-located _ _ _ _ (c .before .before .before .before .before .before .before .before .parse .ensures) (c .before .before .before .before .before .before .if2 .left) in
+    let ran = c .before .before .before .before .run .ensures (s .0) (s .2) in
+    let put = c .before .before .put-listing .ensures _ (s .0) (s .2) (ran .finished) in
+    record {
+      short = λ h. absurd (omega (arith, h, c .before .before .before .before .before .before .before .before .before .if1 .left));
+      printed = λ h. (_, run-printed _ _ _ (s .1) ran, put .behind ∙ omega arith, put .bytes ∙ put-front _ _);
+    }
+
+pub bench-spec : {M : Type 1} → statement M
+bench-spec =
+    tie.close
+    (tie.spec
+    returns
+    parse-requires
+    put-refused-requires
+    same-length
+    returns-2
+    run-requires
+    put-listing-requires
+    same-length-2
+    returns-3)

@@ -1,0 +1,94 @@
+-- `all_sent` meets its contract: frame by frame. Assumes nothing.
+use mathlib.Core.Path.{_≡_, refl, sym, _∙_, ap, subst}
+use mathlib.Core.List.{List}
+use Prim.Native.Nat.{ℕ, _+_, _-_, _≤_, _<_}
+use native.Mathlib.Omega.{arith}
+use borrow.Author.Needs.{needs}
+use lib.ListN.{length, getD, length-set}
+use Rattle.column.specs.Refusal.{send-refusal}
+use Rattle.column.specs.Call.{Frame-of}
+use Rattle.column.specs.View.{settings-of, view}
+use Rattle.bench.specs.Finished.{record-of}
+use Rattle.bench.specs.Running.{frame-past, frame-bytes, frame-at}
+use Rattle.bench.specs.declared.group.Frame.{Frame}
+use Rattle.bench.proofs.Hearing.{set-cases}
+use Rattle.bench.proofs.group.all_sent.Statement.{statement}
+use Rattle.bench.proofs.group.all_sent.Tie as tie
+
+abbrev Inv-loop : tie.InvT-loop
+Inv-loop n columns frames₀ number₀ frames number =
+    (1 ≤ number) × (number ≤ n + 1) × (n ≤ 32) × (length frames ≡ 32)
+    × ((k : ℕ) →
+    1 ≤ k → k < number → send-refusal (record-of columns k) 164 ≡ 0 →
+    Frame-of (record-of columns k) (frame-bytes (record-of columns k .settings) (record-of columns k .round) (frame-at frames k)))
+
+abbrev μ-loop : tie.MeasureT-loop
+μ-loop n columns frames₀ number₀ frames number = n + 1 - number
+
+loop-holds : tie.Need-loop-holds Inv-loop μ-loop
+loop-holds c = (omega arith, omega arith, c .pre, refl, λ k low less. absurd (omega arith))
+
+sub-k : tie.Need-sub-k Inv-loop μ-loop
+sub-k c = omega arith
+
+cast-k : tie.Need-cast-k Inv-loop μ-loop
+cast-k c = omega arith
+
+mul-column : tie.Need-mul-column Inv-loop μ-loop
+mul-column c = omega arith
+
+array-copy-out-column : tie.Need-array-copy-out-column Inv-loop μ-loop
+array-copy-out-column c = omega arith
+
+sent-requires : tie.Need-sent-requires Inv-loop μ-loop
+sent-requires c κs = search needs
+
+mul-frames : tie.Need-mul-frames Inv-loop μ-loop
+mul-frames c = omega arith
+
+array-set-from-frames : tie.Need-array-set-from-frames Inv-loop μ-loop
+array-set-from-frames c = omega arith
+
+add-number : tie.Need-add-number Inv-loop μ-loop
+add-number c = omega arith
+
+loop-less : tie.Need-loop-less Inv-loop μ-loop
+loop-less c = omega arith
+
+loop-again : tie.Need-loop-again Inv-loop μ-loop
+unfolding record-of frame-at view
+loop-again c =
+    let l = c .before .before .before .loop in
+    let columns = c .before .before .before .before .args .t2 in (
+      omega arith,
+      omega arith,
+      l .inv .2,
+      simp length-set (l .inv .3),
+      λ k low less.
+          set-cases (l .frames) frame-past (c .sent .result) (l .number) k
+          (λ (i : ℕ) (x : Frame).
+          send-refusal (record-of columns i) 164 ≡ 0 → Frame-of (record-of columns i) (frame-bytes (record-of columns i .settings) (record-of columns i .round) x))
+          (l .inv .0) (omega arith) low less (c .sent .ensures) (λ before. l .inv .4 k low before),
+    )
+
+returns : tie.Need-returns Inv-loop μ-loop
+returns c k low high = c .before .loop .inv .4 k low (omega arith)
+
+pub all-sent-spec : {M : Type 1} → statement M
+all-sent-spec =
+    tie.close
+    (tie.spec
+    Inv-loop
+    μ-loop
+    loop-holds
+    sub-k
+    cast-k
+    mul-column
+    array-copy-out-column
+    sent-requires
+    mul-frames
+    array-set-from-frames
+    add-number
+    loop-less
+    loop-again
+    returns)

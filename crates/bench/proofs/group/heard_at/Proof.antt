@@ -1,0 +1,126 @@
+-- `heard_at` meets its contract: nothing in its own slot, a good column's frame, or what the file says of a bad one. Assumes nothing.
+use mathlib.Core.Path.{_≡_, refl, sym, _∙_, ap, subst}
+use mathlib.Core.Bool.{true, false}
+use mathlib.Core.List.{List, _++_}
+use mathlib.Core.Option.{none, some}
+use Prim.Native.Nat.{ℕ, _+_, _*_, _-_, _≤_, _<_}
+use native.Mathlib.Omega.{arith}
+use borrow.Author.Needs.{needs}
+use lib.ListN.{length, take, drop, length-drop}
+use lib.Seq.{length-take-le}
+use Rattle.code.specs.Settings.{Settings, settings}
+use Rattle.column.specs.Frame.{operand-size, frame-size}
+use Rattle.column.specs.Call.{after-take}
+use Rattle.column.specs.View.{view}
+use Rattle.bench.specs.Said.{Said}
+use Rattle.bench.specs.Places.{Located, Places-of}
+use Rattle.bench.specs.Running.{Hears, frame-bytes}
+use Rattle.bench.proofs.Hearing.{stands-inside, stands-none, stands-some, heard-own, heard-good, heard-missing, heard-message}
+use Rattle.bench.proofs.Standing.{small}
+use Rattle.bench.proofs.group.heard_at.Statement.{statement}
+use Rattle.bench.proofs.group.heard_at.Tie as tie
+
+returns : tie.Need-returns
+unfolding Hears
+returns c f frames h e = rw (heard-own f frames _ _ _ (c .if1 .taken)) refl
+
+operand-size-requires : tie.Need-operand-size-requires
+unfolding Places-of
+operand-size-requires c κs = let sizes = small _ _ _ (c .before .before .pre .0 .1) in (sizes .few-bad, sizes .few-bytes)
+
+is-good-requires : tie.Need-is-good-requires
+is-good-requires c κs = search needs
+
+add-after-taking : tie.Need-add-after-taking
+add-after-taking c = search needs
+
+after-taking-requires : tie.Need-after-taking-requires
+after-taking-requires c κs = search needs
+
+-- the size is the operand's of the round
+size-as :
+    (c : tie.After-operand-size) (f : Said) → Located (c .before .before .before .args .file .now) (c .before .before .before .args .places) f →
+    c .operand-size .result ≡ operand-size (f .settings) (c .before .before .before .args .round)
+size-as c f h =
+    let a = c .before .before .before .args in
+    c .operand-size .ensures .0 (a .places .n) ∙ ap (λ (s : Settings). operand-size s (a .round)) (sym (h .settings))
+
+returns-2 : tie.Need-returns-2
+unfolding Hears frame-bytes frame-size
+returns-2 c f frames h e =
+    let a = c .before .before .before .before .before .before .args in
+    let size = size-as (c .before .before .before) f h in
+    rw (heard-good f frames _ _ _ (c .before .before .before .before .if1 .left) (sym (c .before .before .is-good .ensures _ f h) ∙ c .before .if2 .taken))
+    (c .after-taking .ensures ∙ ap (after-take (view (a .column)) (a .slot)) (ap (λ (k : ℕ). take (4 + k) (a .frame .bytes)) size ∙ sym e))
+
+message-at-requires : tie.Need-message-at-requires
+message-at-requires c κs = search needs
+
+returns-3 : tie.Need-returns-3
+unfolding Hears
+returns-3 c f frames h e =
+    rw
+    (heard-missing f frames _ _ _ (c .before .before .before .before .before .if1 .left) (sym (c .before .before .before .is-good .ensures _ f h) ∙ c .before .before .if2 .left)
+    (stands-none _ _ _ _ (c .before .message-at .ensures _ f h) (c .if3 .taken)))
+    refl
+
+add-end : tie.Need-add-end
+unfolding Places-of
+add-end c = let g = c .before .before .before .before .before .before .before .pre .0 in omega (arith, size-as (c .before .before .before .before) (g .0) (g .1), stands-inside _ _ _ _ (c .before .message-at .ensures _ (g .0) (g .1)) (c .if3 .left))
+
+sub-framed : tie.Need-sub-framed
+sub-framed c = search needs
+
+part-framed-start : tie.Need-part-framed-start
+part-framed-start c = search needs
+
+part-framed-end : tie.Need-part-framed-end
+unfolding Places-of
+part-framed-end c = let g = c .before .before .before .before .before .before .before .pre .0 in omega (arith, size-as (c .before .before .before .before) (g .0) (g .1), stands-inside _ _ _ _ (c .before .message-at .ensures _ (g .0) (g .1)) (c .if3 .left))
+
+framed-requires : tie.Need-framed-requires
+framed-requires c κs = search needs
+
+add-after-taking-2 : tie.Need-add-after-taking-2
+add-after-taking-2 c = search needs
+
+after-taking-requires-2 : tie.Need-after-taking-requires-2
+after-taking-requires-2 c κs = search needs
+
+returns-4 : tie.Need-returns-4
+unfolding Hears
+returns-4 c f frames h e =
+    let a = c .before .before .before .before .before .before .before .before .before .before .args in
+    let size = size-as (c .before .before .before .before .before .before .before) f h in
+    let at = c .before .before .before .before .message-at .result in
+    let k = c .before .before .before .before .before .before .before .operand-size .result in
+    let stands = c .before .before .before .before .message-at .ensures _ f h in
+    let inside = stands-inside _ _ _ _ stands (c .before .before .before .if3 .left) in
+    let less : at + k - at ≡ k = omega arith in
+    let operand = take (at + k - at) (drop at (a .file .now)) in
+    let same : take (operand-size (f .settings) (a .round)) (drop at (a .file .now)) ≡ operand = ap (λ (i : ℕ). take i (drop at (a .file .now))) (sym (less ∙ size)) in
+    let long : length operand ≡ k = ap (λ (i : ℕ). length (take i (drop at (a .file .now)))) less ∙ length-take-le k (drop at (a .file .now)) (omega (arith, length-drop at (a .file .now), inside, size)) in
+    let frame = ap (λ (i : ℕ). take (4 + i) (c .before .framed .result .bytes)) (sym long) ∙ c .before .framed .ensures in
+    rw (heard-message f frames _ _ _ operand (c .before .before .before .before .before .before .before .before .if1 .left) (sym (c .before .before .before .before .before .before .is-good .ensures _ f h) ∙ c .before .before .before .before .before .if2 .left) (stands-some _ _ _ _ stands (c .before .before .before .if3 .left) ∙ ap some same))
+    (c .after-taking2 .ensures ∙ ap (after-take (view (a .column)) (a .slot)) frame)
+
+pub heard-at-spec : {M : Type 1} → statement M
+heard-at-spec =
+    tie.close
+    (tie.spec
+    returns
+    operand-size-requires
+    is-good-requires
+    add-after-taking
+    after-taking-requires
+    returns-2
+    message-at-requires
+    returns-3
+    add-end
+    sub-framed
+    part-framed-start
+    part-framed-end
+    framed-requires
+    add-after-taking-2
+    after-taking-requires-2
+    returns-4)

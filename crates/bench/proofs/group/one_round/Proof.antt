@@ -1,0 +1,126 @@
+-- `one_round` meets its contract: the frames of all, then column by column. Assumes nothing.
+use mathlib.Core.Path.{_≡_, refl, sym, _∙_, ap, subst}
+use mathlib.Core.List.{List}
+use Prim.Native.Nat.{ℕ, _+_, _-_, _≤_, _<_}
+use native.Mathlib.Omega.{arith}
+use borrow.Author.Needs.{needs}
+use lib.ListN.{length, length-set}
+use Rattle.code.specs.Settings.{Settings}
+use Rattle.column.specs.Call.{Run, Frame-of}
+use Rattle.column.specs.View.{view}
+use Rattle.column.specs.declared.record.Column.{Column}
+use Rattle.bench.specs.Said.{Said}
+use Rattle.bench.specs.Group.{round-calls}
+use Rattle.bench.specs.Places.{Located, Places-of}
+use Rattle.bench.specs.Finished.{record-of, column-past}
+use Rattle.bench.specs.Running.{frame-bytes, frame-at}
+use Rattle.bench.proofs.Standing.{small}
+use Rattle.bench.proofs.Readings.{columns as columns-as}
+use Rattle.bench.proofs.Hearing.{set-cases}
+use Rattle.bench.proofs.group.one_round.Statement.{statement}
+use Rattle.bench.proofs.group.one_round.Tie as tie
+
+abbrev Inv-loop : tie.InvT-loop
+Inv-loop file places round columns frames next₀ number₀ next number =
+    (1 ≤ number) × (number ≤ places .n + 1) × (places .n ≤ 32) × (length next ≡ 32)
+    × ((f : Said) (k : ℕ) →
+    Located file places f → 1 ≤ k → k < number →
+    Run (record-of columns k) (round-calls f (λ j. frame-bytes (f .settings) round (frame-at frames j)) round k) (record-of next k))
+
+abbrev μ-loop : tie.MeasureT-loop
+μ-loop file places round columns frames next₀ number₀ next number = places .n + 1 - number
+
+all-sent-requires : tie.Need-all-sent-requires Inv-loop μ-loop
+unfolding Places-of
+all-sent-requires c κs = small _ _ _ (c .before .pre .0 .1) .few-columns
+
+loop-holds : tie.Need-loop-holds Inv-loop μ-loop
+unfolding Places-of
+loop-holds c =
+    let s = c .before .before in
+    let long : length (s .args .t4) ≡ 32 = search needs in
+    (omega arith, omega arith, small _ _ _ (s .pre .0 .1) .few-columns, long, λ f k h low less. absurd (omega arith))
+
+sub-k : tie.Need-sub-k Inv-loop μ-loop
+sub-k c = omega arith
+
+cast-k : tie.Need-cast-k Inv-loop μ-loop
+cast-k c = omega arith
+
+mul-column : tie.Need-mul-column Inv-loop μ-loop
+mul-column c = omega arith
+
+array-copy-out-column : tie.Need-array-copy-out-column Inv-loop μ-loop
+array-copy-out-column c = omega arith
+
+after-round-requires : tie.Need-after-round-requires Inv-loop μ-loop
+after-round-requires c κs =
+    let l = c .before .before .before .loop .inv in
+    let p = c .before .before .before .before .before .before .pre in
+    (p .0, p .1, p .2, l .0, omega arith)
+
+mul-next : tie.Need-mul-next Inv-loop μ-loop
+mul-next c = omega arith
+
+array-set-from-next : tie.Need-array-set-from-next Inv-loop μ-loop
+array-set-from-next c = omega arith
+
+add-number : tie.Need-add-number Inv-loop μ-loop
+add-number c = omega arith
+
+loop-less : tie.Need-loop-less Inv-loop μ-loop
+loop-less c = omega arith
+
+loop-again : tie.Need-loop-again Inv-loop μ-loop
+unfolding record-of
+loop-again c =
+    let l = c .before .before .before .before .loop in
+    let a = c .before .before .before .before .before .before .before .args in
+    let frames = c .before .before .before .before .before .all-sent .result in (
+      omega arith,
+      omega arith,
+      l .inv .2,
+      simp length-set (l .inv .3),
+      λ f k h low less.
+          set-cases (l .next) column-past (c .after-round .result) (l .number) k
+          (λ (i : ℕ) (x : Column).
+          Run (record-of (a .t4) i) (round-calls f (λ j. frame-bytes (f .settings) (a .round) (frame-at frames j)) (a .round) i) (view x))
+          (l .inv .0) (omega arith) low less (c .after-round .ensures f h) (λ before. l .inv .4 f k h low before),
+    )
+
+returns : tie.Need-returns Inv-loop μ-loop
+returns c f h =
+    let l = c .before .before .loop in
+    let a = c .before .before .before .before .before .args in
+    let frames = c .before .before .before .all-sent in
+    let n = columns-as f (a .places) (h .settings) in
+    record {
+      frames = λ j. frame-bytes (f .settings) (a .round) (frame-at (frames .result) j);
+      sends =
+          λ k low high fine settings round.
+          subst (λ (s : Settings). Frame-of (record-of (a .t4) k) (frame-bytes s (a .round) (frame-at (frames .result) k))) settings
+          (subst
+          (λ (m : ℕ). Frame-of (record-of (a .t4) k) (frame-bytes (record-of (a .t4) k .settings) m (frame-at (frames .result) k)))
+          round (frames .ensures k low (omega (arith, high, n)) fine));
+      calls = λ k low high. l .inv .4 f k h low (omega (arith, high, n));
+    }
+
+pub one-round-spec : {M : Type 1} → statement M
+one-round-spec =
+    tie.close
+    (tie.spec
+    Inv-loop
+    μ-loop
+    all-sent-requires
+    loop-holds
+    sub-k
+    cast-k
+    mul-column
+    array-copy-out-column
+    after-round-requires
+    mul-next
+    array-set-from-next
+    add-number
+    loop-less
+    loop-again
+    returns)

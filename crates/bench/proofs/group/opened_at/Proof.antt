@@ -1,0 +1,81 @@
+-- `opened_at` meets its contract: an own value stands at a place that is not 0, and is one to open with. Assumes nothing.
+use mathlib.Core.Path.{_≡_, refl, sym, _∙_, ap, ap₂}
+use mathlib.Core.List.{List}
+use mathlib.Core.Option.{Option, some}
+use Prim.Native.Nat.{ℕ, _+_, _*_, _-_, _≤_, _<_}
+use native.Mathlib.Omega.{arith}
+use borrow.Author.Needs.{needs}
+use lib.ListN.{length, take, drop}
+use Rattle.code.specs.Settings.{Settings, settings}
+use Rattle.column.specs.Record.{opened}
+use Rattle.column.specs.Refusal.{open-refusal}
+use Rattle.bench.specs.Said.{Said, own-of}
+use Rattle.bench.specs.Group.{bench-run}
+use Rattle.bench.specs.Places.{Stands, Places-of}
+use Rattle.bench.proofs.Hearing.{stands-inside, stands-none, stands-some}
+use Rattle.bench.proofs.Standing.{small, none-some}
+use Rattle.bench.proofs.group.opened_at.Statement.{statement}
+use Rattle.bench.proofs.group.opened_at.Tie as tie
+
+own-at-requires : tie.Need-own-at-requires
+own-at-requires c κs = search needs
+
+empty-requires : tie.Need-empty-requires
+empty-requires c κs = search needs
+
+returns : tie.Need-returns
+returns c f v h e = none-some (sym (stands-none _ (c .before .before .before .before .args .places .w) _ _ (c .before .before .own-at .ensures _ f h) (c .before .if1 .taken)) ∙ e)
+
+cast-end : tie.Need-cast-end
+cast-end c = search needs
+
+add-end : tie.Need-add-end
+unfolding Places-of
+add-end c =
+    let s = c .before .before .before .before in
+    omega (arith, stands-inside _ (s .args .places .w) _ _ (c .before .before .own-at .ensures _ (s .pre .0 .0) (s .pre .0 .1)) (c .before .if1 .left))
+
+sub-open : tie.Need-sub-open
+sub-open c = search needs
+
+part-open-start : tie.Need-part-open-start
+part-open-start c = search needs
+
+part-open-end : tie.Need-part-open-end
+unfolding Places-of
+part-open-end c =
+    let s = c .before .before .before .before in
+    omega (arith, stands-inside _ (s .args .places .w) _ _ (c .before .before .own-at .ensures _ (s .pre .0 .0) (s .pre .0 .1)) (c .before .if1 .left))
+
+open-requires : tie.Need-open-requires
+open-requires c κs = search needs
+
+returns-2 : tie.Need-returns-2
+unfolding bench-run
+returns-2 c f v h e =
+    let s = c .before .before .before .before .before .before .before in
+    let a = s .args in
+    let at = c .before .before .before .before .before .own-at .result in
+    let stood = stands-some _ (a .places .w) _ _ (c .before .before .before .before .before .own-at .ensures _ f h) (c .before .before .before .before .if1 .left) in
+    let size : at + a .places .w - at ≡ a .places .w = omega arith in
+    let whole : _≡_ {A = Option (List ℕ)} (some (take (at + a .places .w - at) (drop at (a .file .now)))) (some v) =
+    ap (λ (k : ℕ). some (take k (drop at (a .file .now)))) size ∙ sym stood ∙ e in
+    let value : take (at + a .places .w - at) (drop at (a .file .now)) ≡ v = cc in
+    let made = c .before .«open» .ensures in
+    let fine = made .answered ∙ ap₂ (λ (x : Settings) (u : List ℕ). open-refusal x (a .number) u) (sym (h .settings)) value ∙ h .opens (a .number) v e in
+    made .done fine ∙ ap₂ (λ (x : Settings) (u : List ℕ). opened x (a .number) 0 u) (sym (h .settings)) value
+
+pub opened-at-spec : {M : Type 1} → statement M
+opened-at-spec =
+    tie.close
+    (tie.spec
+    own-at-requires
+    empty-requires
+    returns
+    cast-end
+    add-end
+    sub-open
+    part-open-start
+    part-open-end
+    open-requires
+    returns-2)

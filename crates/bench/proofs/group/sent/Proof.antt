@@ -1,0 +1,30 @@
+-- `sent` meets its contract: what `send` wrote in front of the array. Assumes nothing.
+use mathlib.Core.Path.{_≡_, refl, sym, _∙_, ap, subst}
+use mathlib.Core.List.{List}
+use Prim.Native.Nat.{ℕ}
+use borrow.Author.Needs.{needs}
+use lib.ListN.{take}
+use Rattle.column.specs.View.{settings-of, view}
+use Rattle.column.specs.Call.{Frame-of}
+use Rattle.column.proofs.Front.{front-value}
+use Rattle.column.specs.Frame.{frame-size}
+use Rattle.bench.specs.Running.{frame-bytes}
+use Rattle.bench.proofs.group.sent.Statement.{statement}
+use Rattle.bench.proofs.group.sent.Tie as tie
+
+slice-aggregate-send : tie.Need-slice-aggregate-send
+slice-aggregate-send c = search needs
+
+send-requires : tie.Need-send-requires
+send-requires c κs = search needs
+
+returns : tie.Need-returns
+unfolding frame-bytes Frame-of view
+returns c h =
+    let says = c .before .send .ensures in
+    let wrote = says .done (says .answered ∙ h) in
+    let kept = ap (take (frame-size (settings-of (c .before .before .before .args .column)) (c .before .before .before .args .column .round))) (wrote .2) ∙ front-value (wrote .0) _ _ (wrote .1 .1) in
+    rw kept (wrote .1)
+
+pub sent-spec : {M : Type 1} → statement M
+sent-spec = tie.close (tie.spec slice-aggregate-send send-requires returns)

@@ -1,0 +1,72 @@
+-- `put_column` meets its contract: the line of what the result answers, or nothing. Assumes nothing.
+use mathlib.Core.Path.{_≡_, refl, sym, _∙_, ap}
+use mathlib.Core.Bool.{true, false}
+use mathlib.Core.List.{List}
+use Prim.Native.Nat.{ℕ}
+use native.Mathlib.Omega.{arith}
+use borrow.Author.Tests.{not-true, not-false}
+use borrow.Author.Needs.{needs}
+use lib.ListN.{length}
+use Rattle.code.specs.Settings.{settings, Settings}
+use Rattle.column.specs.Record.{Held}
+use Rattle.column.specs.View.{held-in, settings-of, view}
+use Rattle.bench.specs.Listing.{column-line}
+use Rattle.bench.specs.Said.{is-good}
+use Rattle.bench.proofs.Text.{put-nothing, put-alike}
+use Rattle.bench.proofs.Wording.{line-short, held-alike}
+use Rattle.bench.proofs.lines.put_column.Statement.{statement}
+use Rattle.bench.proofs.lines.put_column.Tie as tie
+
+is-good-requires : tie.Need-is-good-requires
+is-good-requires c κs = search needs
+
+returns : tie.Need-returns
+returns c =
+    ((λ file f h finished. rw (sym (c .before .is-good .ensures file f h) ∙ not-true _ (c .if1 .taken)) (put-nothing _ _)), omega arith)
+
+result-requires : tie.Need-result-requires
+result-requires c κs = search needs
+
+cast-n : tie.Need-cast-n
+cast-n c = search needs
+
+cast-w : tie.Need-cast-w
+cast-w c = search needs
+
+put-line-requires : tie.Need-put-line-requires
+put-line-requires c κs =
+    let s = c .before .before .before .before .before .before .before .before .before in
+    let r = c .before .before .before .before .before .result .result in
+    omega
+    (arith, s .pre, line-short (s .args .number) (s .args .places .n) (s .args .places .w) (r .values) (r .confidences) (omega (arith, s .pre)) (s .pre .2) (s .pre .3))
+
+same-length : tie.Need-same-length
+same-length c = search needs
+
+returns-2 : tie.Need-returns-2
+returns-2 c =
+    let s = c .before .before .before .before .before .before .before .before .before .before .before .before in
+    let a = s .args in
+    let r = c .before .before .before .before .before .before .before .before .result in
+    let put = c .before .before .put-line in (
+      (λ file f h finished.
+          let good = sym (c .before .before .before .before .before .before .before .before .before .before .is-good .ensures file f h) ∙ not-false _ (c .before .before .before .before .before .before .before .before .before .if1 .left) in
+          let done = finished good in
+          let same = done .settings ∙ h .settings in
+          let held = ap (λ (x : Settings). held-in x (r .result .values) (r .result .confidences)) (sym same) ∙ r .ensures .done (r .ensures .answered ∙ done .answered) in
+          rw good (put-alike (ap (column-line (a .number)) (sym (held-alike (a .places .n) (a .places .t) (a .places .w) _ _) ∙ held)) (put .ensures))),
+      omega (arith, put .ensures .behind, line-short (a .number) (a .places .n) (a .places .w) (r .result .values) (r .result .confidences) (omega (arith, s .pre)) (s .pre .2) (s .pre .3)),
+    )
+
+pub put-column-spec : {M : Type 1} → statement M
+put-column-spec =
+    tie.close
+    (tie.spec
+    is-good-requires
+    returns
+    result-requires
+    cast-n
+    cast-w
+    put-line-requires
+    same-length
+    returns-2)

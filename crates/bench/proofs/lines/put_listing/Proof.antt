@@ -1,0 +1,38 @@
+-- `put_listing` meets its contract: the settings, then the lines. Assumes nothing.
+use mathlib.Core.Path.{_≡_, refl, sym, _∙_, ap, ap₂}
+use mathlib.Core.List.{List, _++_}
+use Prim.Native.Nat.{ℕ}
+use native.Mathlib.Omega.{arith}
+use borrow.Author.Needs.{needs}
+use Rattle.column.specs.Record.{Held}
+use Rattle.bench.specs.Entry.{listing-room}
+use Rattle.bench.specs.Listing.{group-line, column-lines, listing}
+use Rattle.bench.specs.Finished.{record-of}
+use Rattle.bench.proofs.Text.{puts, put-alike}
+use Rattle.bench.proofs.Standing.{small}
+use Rattle.bench.proofs.Readings.{columns}
+use Rattle.bench.proofs.lines.put_listing.Statement.{statement}
+use Rattle.bench.proofs.lines.put_listing.Tie as tie
+
+put-group-requires : tie.Need-put-group-requires
+unfolding listing-room
+put-group-requires c κs = let s = c .before .before in let sizes = small _ _ _ (s .pre .0 .2) in omega (arith, sizes, s .pre .1)
+
+put-columns-requires : tie.Need-put-columns-requires
+unfolding listing-room
+put-columns-requires c κs = let s = c .before .before .before .before .before .before in let sizes = small _ _ _ (s .pre .0 .2) in let group = c .before .before .before .put-group in omega (arith, sizes, s .pre .1, group .ensures .1, group .kept .0)
+
+same-length : tie.Need-same-length
+same-length c = search needs
+
+returns : tie.Need-returns
+unfolding listing
+returns c file f h finished =
+    let a = c .before .before .before .before .before .before .before .before .before .args in
+    let held : ℕ → List Held = λ k. record-of (a .columns) k .held in
+    let n = columns f (a .places) (h .settings) in
+    put-alike (ap₂ _++_ (ap group-line (sym (h .settings))) (ap (λ (k : ℕ). column-lines f held k 1) (sym n)))
+    (puts (omega arith) (c .before .before .before .before .before .before .put-group .ensures .0) (c .before .before .put-columns .ensures file f h finished))
+
+pub put-listing-spec : {M : Type 1} → statement M
+put-listing-spec = tie.close (tie.spec put-group-requires put-columns-requires same-length returns)

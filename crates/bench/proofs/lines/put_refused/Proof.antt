@@ -1,0 +1,53 @@
+-- `put_refused` meets its contract: the word, the number, the line feed. Assumes nothing.
+use mathlib.Core.Path.{_≡_, refl, sym, _∙_, ap}
+use mathlib.Core.List.{append-assoc}
+use native.Mathlib.Omega.{arith}
+use borrow.Author.Needs.{needs}
+use Rattle.bench.specs.Entry.{listing-room}
+use Rattle.bench.specs.Listing.{refused-line}
+use Rattle.bench.proofs.Decimal.{decimal-short}
+use Rattle.bench.proofs.Text.{puts, put-alike}
+use Rattle.bench.proofs.lines.put_refused.Statement.{statement}
+use Rattle.bench.proofs.lines.put_refused.Tie as tie
+
+slice-aggregate-put-bytes : tie.Need-slice-aggregate-put-bytes
+slice-aggregate-put-bytes c = search needs
+
+put-bytes-requires : tie.Need-put-bytes-requires
+unfolding listing-room
+put-bytes-requires c κs = omega (arith, c .before .before .before .pre .1)
+
+put-decimal-requires : tie.Need-put-decimal-requires
+unfolding listing-room
+put-decimal-requires c κs =
+    let s = c .before .before .before .before .before .before .before in
+    let word = c .before .before .before .put-bytes in
+    omega (arith, s .pre, word .ensures .behind, word .kept .0, decimal-short (s .args .number))
+
+put-byte-requires : tie.Need-put-byte-requires
+unfolding listing-room
+put-byte-requires c κs =
+    let s = c .before .before .before .before .before .before .before .before .before .before .before in
+    let word = c .before .before .before .before .before .before .before .put-bytes in
+    let number = c .before .before .before .put-decimal in
+    omega (arith, s .pre, word .ensures .behind, word .kept .0, number .ensures .behind, number .kept .0, decimal-short (s .args .number))
+
+same-length : tie.Need-same-length
+same-length c = search needs
+
+returns : tie.Need-returns
+unfolding refused-line
+returns c =
+    let whole = puts (omega arith) (puts (omega arith) (c .before .before .before .before .before .before .before .before .before .before .put-bytes .ensures) (c .before .before .before .before .before .before .put-decimal .ensures)) (c .before .before .put-byte .ensures) in
+    put-alike (simp append-assoc) whole
+
+pub put-refused-spec : {M : Type 1} → statement M
+put-refused-spec =
+    tie.close
+    (tie.spec
+    slice-aggregate-put-bytes
+    put-bytes-requires
+    put-decimal-requires
+    put-byte-requires
+    same-length
+    returns)

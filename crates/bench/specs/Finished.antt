@@ -1,0 +1,44 @@
+-- A column that has finished, as the listing needs it. Assumes nothing: these are definitions.
+use mathlib.Core.Path.{_≡_}
+use mathlib.Core.Bool.{true}
+use mathlib.Core.List.{List, []}
+use Prim.Native.Nat.{ℕ, _-_, _≤_}
+use lib.ListN.{getD}
+use Rattle.code.specs.Settings.{Settings}
+use Rattle.column.specs.Record.{Rec}
+use Rattle.column.specs.Refusal.{ask-refusal}
+use Rattle.column.specs.View.{settings-of, view}
+use Rattle.column.specs.declared.record.Column.{Column}
+use Rattle.bench.specs.Said.{Said, is-good}
+
+-- its result is answered, with the group's settings
+pub record Finished (s : Settings) (c : Column) : Type 0 where
+  pub answered : ask-refusal (view c) ≡ 0
+  pub settings : settings-of c ≡ s
+
+-- what stands for a column past the last
+abbrev pub column-past : Column
+column-past =
+    record {
+      n = 0;
+      t = 0;
+      w = 0;
+      number = 0;
+      round = 0;
+      refused = 0;
+      run = 0;
+      own = [];
+      slots = [];
+      heard = [];
+      agreed = [];
+      values = [];
+      confidences = [];
+    }
+
+-- the record of a column, of all that the program holds
+unfoldable pub record-of : List Column → (column : ℕ) → Rec
+record-of cs k = view (getD cs (k - 1) column-past)
+
+-- every good column has finished
+unfoldable pub All-finished : Said → List Column → Type 0
+All-finished f cs = (k : ℕ) → 1 ≤ k → k ≤ f .settings .n → is-good f k ≡ true → Finished (f .settings) (getD cs (k - 1) column-past)
