@@ -5,7 +5,7 @@
 mod archive;
 #[path = "shared/chance.rs"]
 mod chance;
-#[path = "../bench/repair/fec.rs"]
+#[path = "../benchmarks/repair/fec.rs"]
 mod fec;
 
 use chance::Chance;

@@ -9,7 +9,7 @@ mod coder;
 mod exchange;
 #[path = "shared/frames.rs"]
 mod frames;
-#[path = "../bench/repair/linear.rs"]
+#[path = "../benchmarks/repair/linear.rs"]
 mod linear;
 #[path = "shared/refusals.rs"]
 mod refusals;

@@ -10,7 +10,7 @@ mod draw;
 mod exchange;
 mod faults;
 mod group;
-#[path = "../../bench/repair/linear.rs"]
+#[path = "../../benchmarks/repair/linear.rs"]
 mod linear;
 mod model;
 mod run;

@@ -1,8 +1,8 @@
 #!/usr/bin/env python3
 """Bytes on the air for one exchange: the coded one of this library, and the plain one that sends whole vectors.
 
-    python3 bench/air.py            prints the table
-    python3 bench/air.py FILE.svg   draws the picture
+    python3 benchmarks/air.py            prints the table
+    python3 benchmarks/air.py FILE.svg   draws the picture
 
 Each column sends one frame a round, which all others hear. In round one a frame has 4 + w bytes; in rounds two and three
 4 + 2tw with check values, and 4 + nw with a whole vector, as in gradecast by every column at once.

@@ -9,14 +9,14 @@ if ! [ -f /usr/include/fec.h ]; then
     apt-get install -y libfec-dev
 fi
 . tests/shared/build.sh
-rust_program bench/repair/main.rs target/tests/repair_times -l dylib=fec
+rust_program benchmarks/repair/main.rs target/tests/repair_times -l dylib=fec
 target/tests/repair_times
 echo
 rust_crate
-rust bench/calls/main.rs target/tests/call_times -A dead_code --extern sajowemi=target/tests/libsajowemi.rlib
+rust benchmarks/calls/main.rs target/tests/call_times -A dead_code --extern sajowemi=target/tests/libsajowemi.rlib
 target/tests/call_times
 echo
-c_program bench/calls/stack.c target/tests/stack_use
+c_program benchmarks/calls/stack.c target/tests/stack_use
 target/tests/stack_use
 echo
 echo "The archive has $(wc -c <target/staticlib/libsajowemi.a) bytes, a record 6,116."
