@@ -89,28 +89,28 @@ first-whole many f rows e m = record { long = m .long; row = row }
 
 -- one more row
 multiples-next :
-    (many at : ℕ) (f g : ℕ → ℕ) (rows now : List ℕ) → 8 * many ≡ at → Multiples many f rows → Written at 8 g rows now →
+    (many : ℕ) (f g : ℕ → ℕ) (rows now : List ℕ) → Multiples many f rows → Written (8 * many) 8 g rows now →
     ((p : ℕ) → p < 8 → g p ≡ times (f p) many) → Multiples (many + 1) f now
-multiples-next many at f g rows now e m w new = record { long = w .long ∙ m .long; row = λ k p h l. row k p h l (decLt k many) }
+multiples-next many f g rows now m w new = record { long = w .long ∙ m .long; row = λ k p h l. row k p h l (decLt k many) }
   where
     row : (k p : ℕ) → k < many + 1 → p < 8 → Dec (k < many) → getD now (8 * k + p) 0 ≡ times (f p) k
     row k p h l (yes a) = w .before _ (omega arith) ∙ m .row k p a l
     row k p h l (no a) =
         let q : k ≡ many = omega arith in
-        rw q (ap (λ (i : ℕ). getD now i 0) (let z : 8 * many + p ≡ at + p = omega arith in z) ∙ w .new p l ∙ new p l)
+        rw q (w .new p l ∙ new p l)
 
 pub multiples-double :
     (w : ℕ) (f : ℕ → ℕ) (rows now : List ℕ) → 1 ≤ w → w ≤ 4 → ((p : ℕ) → f p < 256) → Multiples (2 * w) f rows →
-    Written (16 * w) 8 (λ p. doubled (getD rows (8 * w + p) 0)) rows now → Multiples (2 * w + 1) f now
+    Written (8 * (2 * w)) 8 (λ p. doubled (getD rows (8 * w + p) 0)) rows now → Multiples (2 * w + 1) f now
 multiples-double w f rows now h l byte m v =
-    multiples-next (2 * w) (16 * w) f _ rows now (omega arith) m v
+    multiples-next (2 * w) f _ rows now m v
     (λ p k. ap doubled (m .row w p (omega arith) k) ∙ sym (times-twice (f p) w (byte p) (omega arith)))
 
 pub multiples-join :
     (w k : ℕ) (f : ℕ → ℕ) (rows now : List ℕ) → k < w → plus w k ≡ w + k → ((p : ℕ) → f p < 256) → Multiples (w + k) f rows → 1 ≤ k →
     Written (8 * (w + k)) 8 (λ p. plus (getD rows (8 * w + p) 0) (getD rows (8 * k + p) 0)) rows now → Multiples (w + k + 1) f now
 multiples-join w k f rows now h e byte m o v =
-    multiples-next (w + k) (8 * (w + k)) f _ rows now refl m v
+    multiples-next (w + k) f _ rows now m v
     (λ p l. ap₂ plus (m .row w p (omega arith) l) (m .row k p (omega arith) l) ∙ sym (times-plus (f p) w k (byte p)) ∙ ap (times (f p)) e)
 
 pub multiples-to : {many more : ℕ} {f : ℕ → ℕ} {rows : List ℕ} → many ≡ more → Multiples many f rows → Multiples more f rows
@@ -123,10 +123,26 @@ plus-below w k (inl e) h = rw e (eqb→eq _ _ (below (λ m. eqb (plus 2 m) (2 + 
 plus-below w k (inr (inl e)) h = rw e (eqb→eq _ _ (below (λ m. eqb (plus 4 m) (4 + m)) 4 tt k (omega arith)))
 plus-below w k (inr (inr e)) h = rw e (eqb→eq _ _ (below (λ m. eqb (plus 8 m) (8 + m)) 8 tt k (omega arith)))
 
--- one more row of products: a low and a high multiple added to it
+-- one more row of products
 pub products-none : (value constants rows : List ℕ) → Products-added 0 value constants rows rows
 products-none value constants rows = record { long = refl; sums = λ j p h l. absurd (omega arith); rest = λ i h. refl }
 
+pub products-next :
+    (j : ℕ) (value constants rows so-far now : List ℕ) (g : ℕ → ℕ) → Products-added j value constants rows so-far → Written (8 * j) 8 g so-far now →
+    ((p : ℕ) → p < 8 → g p ≡ plus (getD so-far (8 * j + p) 0) (times (getD value p 0) (getD constants j 0))) →
+    Products-added (j + 1) value constants rows now
+products-next j value constants rows so-far now g a w new =
+    record { long = w .long ∙ a .long; sums = λ i p h k. sums i p h k (decLt i j); rest = λ i h. w .after i (omega arith) ∙ a .rest i (omega arith) }
+  where
+    sums :
+        (i p : ℕ) → i < j + 1 → p < 8 → Dec (i < j) →
+        getD now (8 * i + p) 0 ≡ plus (getD rows (8 * i + p) 0) (times (getD value p 0) (getD constants i 0))
+    sums i p h k (yes d) = w .before _ (omega arith) ∙ a .sums i p d k
+    sums i p h k (no d) =
+        let e : i ≡ j = omega arith in
+        rw e (w .new p k ∙ new p k ∙ ap (λ (b : ℕ). plus b (times (getD value p 0) (getD constants j 0))) (a .rest (8 * j + p) (omega arith)))
+
+-- by a low and a high multiple
 pub products-more :
     (j : ℕ) (value constants low high rows so-far middle now : List ℕ) → ((p : ℕ) → getD value p 0 < 256) → getD constants j 0 < 256 →
     Multiples 16 (λ p. getD value p 0) low → Multiples 16 (λ p. doubled (getD low (64 + p) 0)) high →
@@ -135,11 +151,14 @@ pub products-more :
     Written (8 * j) 8 (λ p. plus (getD middle (8 * j + p) 0) (getD high (8 * (getD constants j 0 / 16) + p) 0)) middle now →
     Products-added (j + 1) value constants rows now
 products-more j value constants low high rows so-far middle now byte fits l h a w v =
-    record {
-      long = v .long ∙ w .long ∙ a .long;
-      sums = sums;
-      rest = λ i g. v .after i (omega arith) ∙ w .after i (omega arith) ∙ a .rest i (omega arith);
-    }
+    products-next j value constants rows so-far now (λ p. plus (plus (getD so-far (8 * j + p) 0) (getD low (8 * (c % 16) + p) 0)) (getD high (8 * (c / 16) + p) 0)) a
+    (record {
+      long = v .long ∙ w .long;
+      new = λ p k. v .new p k ∙ ap (λ (b : ℕ). plus b (getD high (8 * (c / 16) + p) 0)) (w .new p k);
+      before = λ i k. v .before i k ∙ w .before i k;
+      after = λ i k. v .after i k ∙ w .after i k;
+    })
+    (λ p k. plus-assoc _ _ _ ∙ ap (plus (getD so-far (8 * j + p) 0)) (product p k))
   where
     c : ℕ
     c = getD constants j 0
@@ -150,17 +169,6 @@ products-more j value constants low high rows so-far middle now byte fits l h a 
         (h .row (c / 16) p (omega arith) g
         ∙ ap (λ (x : ℕ). times (doubled x) (c / 16)) (l .row 8 p (omega arith) g))
         ∙ times-halves (getD value p 0) c (byte p) fits
-
-    sums : (i p : ℕ) → i < j + 1 → p < 8 → getD now (8 * i + p) 0 ≡ plus (getD rows (8 * i + p) 0) (times (getD value p 0) (getD constants i 0))
-    sums i p g k = go (decLt i j)
-      where
-        go : Dec (i < j) → getD now (8 * i + p) 0 ≡ plus (getD rows (8 * i + p) 0) (times (getD value p 0) (getD constants i 0))
-        go (yes d) = v .before _ (omega arith) ∙ w .before _ (omega arith) ∙ a .sums i p d k
-        go (no d) =
-            let e : i ≡ j = omega arith in
-            rw e
-            (v .new p k ∙ ap (λ (b : ℕ). plus b (getD high (8 * (c / 16) + p) 0)) (w .new p k) ∙ plus-assoc _ _ _
-            ∙ ap₂ plus (a .rest (8 * j + p) (omega arith)) (product p k))
 
 pub products-to :
     {many k : ℕ} {value constants rows now : List ℕ} → many ≡ k → Products-added many value constants rows now → Products-added k value constants rows now

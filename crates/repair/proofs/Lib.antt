@@ -24,6 +24,7 @@ pub mod CheckSums
 pub mod ErrorSums
 pub mod PlaceRows
 pub mod PlacePowers
+pub mod Listing
 pub mod ColumnErrors
 pub mod Located
 pub mod PlaneLocators

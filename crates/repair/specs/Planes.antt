@@ -27,6 +27,11 @@ unfoldable pub Locators-as : (found : Bool) → (planes count t : ℕ) → (sums
 Locators-as true planes count t sums sizes rows = Locators planes count t sums sizes rows
 Locators-as false planes count t sums sizes rows = (p : ℕ) × (p < planes) × (t < massey (plane-sums p count sums) count .size)
 
+-- the least number that none of the first sizes is above
+pub record Longest (many : ℕ) (sizes : List ℕ) (most : ℕ) : Type 0 where
+  pub above : (p : ℕ) → p < many → getD sizes p 0 ≤ most
+  pub least : (k : ℕ) → ((p : ℕ) → p < many → getD sizes p 0 ≤ k) → most ≤ k
+
 -- the weighted errors of the first planes at all places, and zeros for the other planes
 pub record Weighted (planes : ℕ) (s : Settings) (sums weighted : List ℕ) : Type 0 where
   pub long : length weighted ≡ 416

@@ -38,6 +38,13 @@ pub record Evaluated (many n checks : ℕ) (coefficients rows : List ℕ) : Type
       (j p : ℕ) → j < n + checks → p < 8 →
       getD rows (8 * j + p) 0 ≡ eval (lane p many coefficients) (power 2 (place-exponent n checks j))
 
+-- the first entries of a list are the places below a number at which f is 0
+pub record Listed (places : ℕ) (f : ℕ → ℕ) (many : ℕ) (at : List ℕ) : Type 0 where
+  pub long : length at ≡ 52
+  pub few : many ≤ places
+  pub each : (i : ℕ) → i < many → (getD at i 0 < places) × (f (getD at i 0) ≡ 0)
+  pub all : (j : ℕ) → j < places → f j ≡ 0 → (i : ℕ) × (i < many) × (getD at i 0 ≡ j)
+
 -- plane p of the first rows is f, and every other byte is kept
 pub record Lane-written (p many : ℕ) (f : ℕ → ℕ) (rows rows-now : List ℕ) : Type 0 where
   pub long : length rows-now ≡ length rows

@@ -7,7 +7,7 @@ ghost use Rattle.field.specs.Table.{Powers, Logarithms};
 ghost use Rattle.code.specs.Array.{Filled};
 ghost use Rattle.code.specs.Settings.{settings};
 ghost use Rattle.repair.specs.Search.{Lane-written, Evaluated};
-ghost use Rattle.repair.specs.Planes.{Locators-as, Locators as «Locators-of», Counted-as, Explains, Decoded-as};
+ghost use Rattle.repair.specs.Planes.{Locators-as, Locators as «Locators-of», Longest, Counted-as, Explains, Decoded-as};
 use crate::locator::locate;
 use crate::search::count_wrong;
 use crate::search::evaluate_all;
@@ -94,6 +94,23 @@ fn locate_all(
     }
 }
 
+// The largest of the first sizes.
+fn longest(sizes: [usize; 8], many: usize) -> usize
+    requires { ⌜ (many ≤ 8) × (length sizes ≡ 8) ⌝ }
+    ensures { λ r. ⌜ Longest many sizes r ⌝ }
+{
+    let mut most = 0;
+    let mut p = 0;
+    while p < many {
+        let size = sizes[p];
+        if most < size {
+            most = size;
+        }
+        p += 1;
+    }
+    most
+}
+
 // Each plane's errors at all places by its locator, at most t of them not 0; or some plane has more.
 fn errors_at_places(
     powers: &[u8; 255],
@@ -168,7 +185,8 @@ fn search_errors(
     }
     let rows = located.rows;
     let sizes = located.sizes;
-    let values = evaluate_all(powers, &rows, t + 1, n, count);
+    let most = longest(sizes, size);
+    let values = evaluate_all(powers, &rows, most + 1, n, count);
     let errors = errors_at_places(powers, logarithms, sums, sizes, &rows, &values, n, t, size);
     if !errors.found {
         return errors;

@@ -14,6 +14,9 @@ Inv-loop rows₀ w k₀ rows k = (1 ≤ k) × (k ≤ 2 * w) × (length rows ≡ 
 abbrev μ-loop : tie.MeasureT-loop
 μ-loop rows₀ w k₀ rows k = 2 * w - k
 
+mul-double-row : tie.Need-mul-double-row Inv-loop μ-loop
+mul-double-row c = omega arith
+
 double-row-requires : tie.Need-double-row-requires Inv-loop μ-loop
 double-row-requires c κs = omega arith
 
@@ -63,6 +66,7 @@ extend-spec =
     (tie.spec
     Inv-loop
     μ-loop
+    mul-double-row
     double-row-requires
     loop-holds
     mul-loop

@@ -89,10 +89,13 @@ weighted-errors-requires c κs =
         (omega arith, omega arith, omega arith),
         (
           (omega (arith, values .long), omega (arith, l .loop .inv .1 .long)),
-          λ j h.
-              locator-values (l .loop .p) (a .t + 1) (a .n) (2 * a .t) (a .rows .now) (a .values .now) _ _ (omega arith) (c .before .before .before .before .before .before .before .before .place-powers .ensures) values
-              (lane-locator (l .loop .p) (a .size) (2 * a .t) (a .t) (a .sums .now) (a .t4) (a .rows .now) (c .before .before .before .before .plane-of2 .result) inside (omega arith) d (c .before .before .before .before .plane-of2 .ensures))
-              j (omega arith),
+          (
+            λ j h.
+                locator-values (l .loop .p) (a .t + 1) (a .n) (2 * a .t) (a .rows .now) (a .values .now) _ _ (omega arith) (c .before .before .before .before .before .before .before .before .place-powers .ensures) values
+                (lane-locator (l .loop .p) (a .size) (2 * a .t) (a .t) (a .sums .now) (a .t4) (a .rows .now) (c .before .before .before .before .plane-of2 .result) inside (omega arith) d (c .before .before .before .before .plane-of2 .ensures))
+                j (omega arith),
+            λ j h. l .loop .inv .1 .others j (l .loop .p) (omega arith) (omega arith),
+          ),
         ),
       ),
     )

@@ -1,4 +1,4 @@
--- `add_products` meets its contract: a row is done by a low and a high multiple, and the rows done before it are kept. Assumes nothing.
+-- `add_by_tables` meets its contract: a row is done by a low and a high multiple, and the rows done before it are kept. Assumes nothing.
 use mathlib.Core.Path.{_≡_}
 use Prim.Native.Nat.{_-_, _≤_}
 use native.Mathlib.Omega.{arith}
@@ -6,8 +6,8 @@ use lib.ListN.{length}
 use borrow.Author.Needs.{needs}
 use Rattle.code.specs.Lanes.{Products-added}
 use Rattle.code.proofs.Multiples.{doubled-byte, products-none, products-more, products-to}
-use Rattle.code.proofs.lanes.add_products.Statement.{statement}
-use Rattle.code.proofs.lanes.add_products.Tie as tie
+use Rattle.code.proofs.lanes.add_by_tables.Statement.{statement}
+use Rattle.code.proofs.lanes.add_by_tables.Tie as tie
 
 abbrev Inv-loop : tie.InvT-loop
 Inv-loop value constants rows₀ low high j₀ rows j = (j ≤ length constants) × Products-added j value constants rows₀ rows
@@ -72,8 +72,8 @@ same-length c = c .before .loop .inv .1 .long
 returns : tie.Need-returns Inv-loop μ-loop
 returns c = products-to (let e : c .before .loop .j ≡ _ = omega arith in e) (c .before .loop .inv .1)
 
-pub add-products-spec : {M : Type 1} → statement M
-add-products-spec =
+pub add-by-tables-spec : {M : Type 1} → statement M
+add-by-tables-spec =
     tie.close
     (tie.spec
     Inv-loop
