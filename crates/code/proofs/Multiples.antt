@@ -113,9 +113,6 @@ multiples-join w k f rows now h e byte m o v =
     multiples-next (w + k) f _ rows now m v
     (λ p l. ap₂ plus (m .row w p (omega arith) l) (m .row k p (omega arith) l) ∙ sym (times-plus (f p) w k (byte p)) ∙ ap (times (f p)) e)
 
-pub multiples-to : {many more : ℕ} {f : ℕ → ℕ} {rows : List ℕ} → many ≡ more → Multiples many f rows → Multiples more f rows
-multiples-to {many} {more} {f} {rows} e m = subst (λ (k : ℕ). Multiples k f rows) e m
-
 -- a sum of a power of two and less is their exclusive or
 pub plus-below : (w k : ℕ) → (w ≡ 1) ⊎ ((w ≡ 2) ⊎ (w ≡ 4)) → k < 2 * w → plus (2 * w) k ≡ 2 * w + k
 unfolding plus xor-from

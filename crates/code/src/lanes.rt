@@ -62,17 +62,32 @@ fn add_row(rows: &mut [u8; 128], w: usize, k: usize)
     }
 }
 
-// Twice as many multiples as the 2w there are: row 2w is twice row w, and row 2w + k the sum of rows 2w and k.
-fn extend(rows: &mut [u8; 128], w: usize)
-    requires { ⌜ (1 ≤ w) × (w ≤ 4) × (length (now rows) ≡ 128) × ((k : ℕ) → k < 2 * w → plus (2 * w) k ≡ 2 * w + k) ⌝ }
-    ensures { λ _. ⌜ (length (now (rows .exit)) ≡ 128) × Continued (2 * w) (4 * w) (now (rows .entry)) (now (rows .exit)) ⌝ }
+// Eight multiples from the first two. The rows are numbers that the compiler knows, so that no step is left to a loop.
+fn to_eight(rows: &mut [u8; 128])
+    requires { ⌜ length (now rows) ≡ 128 ⌝ }
+    ensures { λ _. ⌜ (length (now (rows .exit)) ≡ 128) × Continued 2 8 (now (rows .entry)) (now (rows .exit)) ⌝ }
 {
-    double_row(rows, w, 2 * w);
-    let mut k = 1;
-    while k < 2 * w {
-        add_row(rows, 2 * w, k);
-        k += 1;
-    }
+    double_row(rows, 1, 2);
+    add_row(rows, 2, 1);
+    double_row(rows, 2, 4);
+    add_row(rows, 4, 1);
+    add_row(rows, 4, 2);
+    add_row(rows, 4, 3);
+}
+
+// Sixteen multiples from the first eight.
+fn to_sixteen(rows: &mut [u8; 128])
+    requires { ⌜ length (now rows) ≡ 128 ⌝ }
+    ensures { λ _. ⌜ (length (now (rows .exit)) ≡ 128) × Continued 8 16 (now (rows .entry)) (now (rows .exit)) ⌝ }
+{
+    double_row(rows, 4, 8);
+    add_row(rows, 8, 1);
+    add_row(rows, 8, 2);
+    add_row(rows, 8, 3);
+    add_row(rows, 8, 4);
+    add_row(rows, 8, 5);
+    add_row(rows, 8, 6);
+    add_row(rows, 8, 7);
 }
 
 // All sixteen multiples from the first two.
@@ -80,9 +95,8 @@ fn multiply(rows: &mut [u8; 128])
     requires { ⌜ length (now rows) ≡ 128 ⌝ }
     ensures { λ _. ⌜ (length (now (rows .exit)) ≡ 128) × Continued 2 16 (now (rows .entry)) (now (rows .exit)) ⌝ }
 {
-    extend(rows, 1);
-    extend(rows, 2);
-    extend(rows, 4);
+    to_eight(rows);
+    to_sixteen(rows);
 }
 
 // The row of bytes from a place on, and the k-th multiple added to it.

@@ -1,25 +1,15 @@
--- `multiply` meets its contract: two multiples, then four, eight, sixteen. Assumes nothing.
-use mathlib.Core.Path.{refl}
-use mathlib.Core.Logic.{inl, inr}
-use native.Mathlib.Omega.{arith}
-use Rattle.code.proofs.Multiples.{plus-below}
+-- `multiply` meets its contract: two multiples, then eight, then sixteen. Assumes nothing.
 use Rattle.code.proofs.lanes.multiply.Statement.{statement}
 use Rattle.code.proofs.lanes.multiply.Tie as tie
 
-extend-requires : tie.Need-extend-requires
-extend-requires c κs = (omega arith, omega arith, c .before .pre, λ k h. plus-below 1 k (inl refl) h)
+to-eight-requires : tie.Need-to-eight-requires
+to-eight-requires c κs = c .before .pre
 
-extend-requires-2 : tie.Need-extend-requires-2
-extend-requires-2 c κs = (omega arith, omega arith, c .before .extend .ensures .0, λ k h. plus-below 2 k (inr (inl refl)) h)
-
-extend-requires-3 : tie.Need-extend-requires-3
-extend-requires-3 c κs = (omega arith, omega arith, c .before .extend2 .ensures .0, λ k h. plus-below 4 k (inr (inr refl)) h)
+to-sixteen-requires : tie.Need-to-sixteen-requires
+to-sixteen-requires c κs = c .before .to-eight .ensures .0
 
 returns : tie.Need-returns
-returns c = (
-  c .extend3 .ensures .0,
-  λ f byte m. c .extend3 .ensures .1 f byte (c .before .before .extend2 .ensures .1 f byte (c .before .before .before .before .extend .ensures .1 f byte m)),
-)
+returns c = (c .to-sixteen .ensures .0, λ f byte m. c .to-sixteen .ensures .1 f byte (c .before .before .to-eight .ensures .1 f byte m))
 
 pub multiply-spec : {M : Type 1} → statement M
-multiply-spec = tie.close (tie.spec extend-requires extend-requires-2 extend-requires-3 returns)
+multiply-spec = tie.close (tie.spec to-eight-requires to-sixteen-requires returns)
