@@ -1,10 +1,10 @@
 -- The run of a group, round by round. A good column's record is proper after its opening and after each round, and is then one round
 -- further on, since it can be closed; so its frame is sent in each round and its result is answered at the end. Assumes nothing.
 use mathlib.Core.Path.{_≡_, refl, sym, _∙_, ap, subst}
-use mathlib.Core.Bool.{Bool, true, false, cond}
+use mathlib.Core.Bool.{true}
 use mathlib.Core.List.{List, [], _∷_}
 use mathlib.Core.Option.{Option, none, some}
-use Prim.Native.Nat.{ℕ, zero, suc, _-_, _≤_, _<_}
+use Prim.Native.Nat.{ℕ, zero, suc, _-_, _≤_}
 use native.Mathlib.Omega.{arith}
 use lib.ListN.{getD}
 use borrow.Author.Tests.{le-leb, le-ltb, eq-eqb}
@@ -22,7 +22,7 @@ use Rattle.column.proofs.Size.{frame-fits-slot}
 use Rattle.column.proofs.Step.{step-of, after-take-round}
 use Rattle.column.proofs.Proper.{Proper, proper-open, proper-fine, proper-step}
 use Rattle.bench.specs.Said.{Said, own-of, is-good}
-use Rattle.bench.specs.Group.{bench-run, taking-first, calls-from, round-calls, heard-in, Group-run}
+use Rattle.bench.specs.Group.{bench-run, taking-first, calls-from, round-calls}
 use Rattle.bench.specs.Finished.{Finished, record-of, column-past, All-finished}
 use Rattle.bench.specs.Running.{Round-run, Group-ran}
 

@@ -9,16 +9,15 @@ use native.Mathlib.Omega.{arith}
 use lib.Dec.{eqb, leb, ltb}
 use lib.ListN.{length, getD, take, drop, length-drop}
 use lib.Seq.{getD-drop, drop-drop}
-use borrow.Author.Tests.{eqb-true, eqb-false, leb-true, ltb-false, not-false, eq-eqb, ne-eqb}
+use borrow.Author.Tests.{eqb-true, leb-true, ltb-false, not-false, eq-eqb, ne-eqb}
 use Rattle.code.specs.Settings.{Settings, settings, value-size}
 use Rattle.code.proofs.Bytes.{and-split}
 use Rattle.column.proofs.Bool.{true-not-false}
 use Rattle.column.specs.Value.{is-blank}
 use Rattle.column.specs.Frame.{operand-size}
 use Rattle.column.specs.Refusal.{first-of, blank-refusal}
-use Rattle.column.proofs.Refusal.{first-of-zero}
 use Rattle.bench.specs.Said.{Said, message}
-use Rattle.bench.specs.Command.{command-in, is-known, head-size, body-size, command-size, body-in, no-message, form-refusal, message-in, is-column, column-refusal, message-refusal, checks-round-refusal, operand-refusal, value-refusal, command-refusal}
+use Rattle.bench.specs.Command.{command-in, is-known, head-size, body-size, command-size, body-in, no-message, form-refusal, message-in, is-column, column-refusal, message-refusal, checks-round-refusal, operand-refusal, value-refusal}
 use Rattle.bench.specs.declared.places.Places.{Places}
 
 pub byte-in : (file : List ℕ) (at i : ℕ) → getD (drop at file) i 0 ≡ getD file (at + i) 0

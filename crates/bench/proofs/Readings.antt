@@ -1,16 +1,16 @@
 -- What a command that is not turned down says, and where its value or check values stand. An own value is one to open with, since every
 -- line of opening was tested; a message of rounds two and three has the size of its round's operand. Assumes nothing.
-use mathlib.Core.Path.{_≡_, refl, sym, _∙_, ap, subst}
-use mathlib.Core.Bool.{Bool, true, false, cond, not, _&&_}
+use mathlib.Core.Path.{_≡_, refl, sym, _∙_, ap}
+use mathlib.Core.Bool.{Bool, true, false, cond}
 use mathlib.Core.List.{List}
 use mathlib.Core.Logic.{_⊎_, inl, inr}
-use Prim.Native.Nat.{ℕ, _+_, _≤_, _<_}
+use Prim.Native.Nat.{ℕ, _+_, _≤_}
 use native.Mathlib.Omega.{arith}
-use lib.Dec.{eqb, leb}
+use lib.Dec.{eqb}
 use lib.ListN.{length, getD, take, drop, length-drop}
 use lib.Seq.{drop-drop, length-take-le}
 use borrow.Author.Tests.{eq-eqb, ne-eqb, le-leb}
-use Rattle.code.specs.Settings.{Settings, settings, settings-refusal, value-size}
+use Rattle.code.specs.Settings.{Settings, settings, settings-refusal}
 use Rattle.column.specs.Value.{Value}
 use Rattle.column.specs.Frame.{operand-size}
 use Rattle.column.specs.Refusal.{number-refusal, size-refusal, blank-refusal, open-refusal}

@@ -1,6 +1,6 @@
 -- A file command by command. One step of the commands' definition is one command: turned down, the end, or the rest behind it. No
 -- bytes left is cut short, however many commands may still come. No refusal has a number above 20. Assumes nothing.
-use mathlib.Core.Path.{_≡_, refl, sym, _∙_, ap}
+use mathlib.Core.Path.{_≡_, refl}
 use mathlib.Core.Bool.{Bool, true, false, cond, not, _&&_, _||_}
 use mathlib.Core.List.{List, []}
 use Prim.Native.Nat.{ℕ, zero, suc, _+_, _-_, _*_, _≤_, _<_}
@@ -15,7 +15,7 @@ use Rattle.column.specs.Record.{is-taken}
 use Rattle.column.proofs.Bool.{or-false}
 use Rattle.column.proofs.Refusal.{first-of-zero}
 use Rattle.bench.specs.Said.{Said, only-settings, is-good, message-of}
-use Rattle.bench.specs.Command.{command-in, is-known, command-size, body-in, no-message, form-refusal, message-in, is-column, column-refusal, message-refusal, checks-round-refusal, operand-refusal, value-refusal, command-refusal, after-command}
+use Rattle.bench.specs.Command.{command-in, is-known, command-size, body-in, no-message, form-refusal, is-column, column-refusal, message-refusal, checks-round-refusal, operand-refusal, value-refusal, command-refusal, after-command}
 use Rattle.bench.specs.File.{refused, said, longest, group-in, group-refusal, commands-from, commands-told, file-told}
 
 -- one command

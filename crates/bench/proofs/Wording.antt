@@ -1,6 +1,6 @@
 -- The texts of the listing piece by piece, as they are put, and how long they are at most: 31 bytes for a value of eight, 36 for a column's
 -- holdings, 1,155 for a line. Assumes nothing.
-use mathlib.Core.Path.{_≡_, refl, sym, _∙_, ap}
+use mathlib.Core.Path.{_≡_, refl, ap}
 use mathlib.Core.Bool.{Bool, true, false, cond}
 use mathlib.Core.List.{List, [], _∷_, _++_}
 use Prim.Native.Nat.{ℕ, zero, suc, _+_, _*_, _-_, _≤_, _<_}
