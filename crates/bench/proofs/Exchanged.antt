@@ -60,13 +60,13 @@ closed-round (suc (suc (suc zero))) r q l h c = ap (λ (z : Rec). z .round) (c .
 closed-round (suc (suc (suc (suc m)))) r q l h c = absurd (omega arith)
 
 -- a good column's record in a round
-record In-round (s : Settings) (k : ℕ) (v : Value) (m : ℕ) (r : Rec) : Type 0 where
+pub record In-round (s : Settings) (k : ℕ) (v : Value) (m : ℕ) (r : Rec) : Type 0 where
   pub proper : Proper s k bench-run v r
   pub round : r .round ≡ m
 
 module _ (s : Settings) (k : ℕ) (v : Value) (o : Opens s k v) where
   -- one round further on
-  next-round-of :
+  pub next-round-of :
       (heard : ℕ → Option (List ℕ)) (many slot m : ℕ) (r q : Rec) → 1 ≤ m → m ≤ 3 → In-round s k v m r → Run r (calls-from heard many slot) q →
       In-round s k v (suc m) q
   unfolding calls-from taking-first After-close Leads
@@ -96,7 +96,7 @@ module _ (s : Settings) (k : ℕ) (v : Value) (o : Opens s k v) where
           (first .2)
 
 -- a good column has an own value
-good-own : (f : Said) (k : ℕ) → is-good f k ≡ true → (v : Value) × (own-of (f .owns) k ≡ some v)
+pub good-own : (f : Said) (k : ℕ) → is-good f k ≡ true → (v : Value) × (own-of (f .owns) k ≡ some v)
 unfolding is-good is-taken
 good-own f k e = go (own-of (f .owns) k) refl e
   where
