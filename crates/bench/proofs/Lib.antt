@@ -9,3 +9,4 @@ pub mod Hearing
 pub mod Exchanged
 pub mod Output
 pub mod OneRun
+pub mod Sound

@@ -3,7 +3,7 @@
 -- Assumes nothing.
 use mathlib.Core.Path.{_≡_, refl, sym, _∙_, ap, ap₂, subst}
 use mathlib.Core.Bool.{Bool, true, false, cond}
-use mathlib.Core.List.{List, [], _∷_, _++_}
+use mathlib.Core.List.{List, [], _++_}
 use mathlib.Core.Option.{Option, none, some}
 use Prim.Native.Nat.{ℕ, zero, suc, _+_, _*_, _≤_}
 use native.Mathlib.Omega.{arith}
@@ -18,18 +18,19 @@ use Rattle.code.proofs.Checks.{checks-there}
 use Rattle.code.proofs.Cut.{glued-cut}
 use Rattle.column.specs.Value.{Value, Vector}
 use Rattle.column.specs.Frame.{operand-size, frame-size, operand-in, checks-in}
-use Rattle.column.specs.Record.{Rec, Held, opened}
+use Rattle.column.specs.Record.{Rec, opened}
 use Rattle.column.specs.Refusal.{open-refusal}
 use Rattle.column.specs.Call.{Call, Run, Passes, here, later, Operand, Frame-of}
 use Rattle.column.proofs.Refusal.{Opens, opens-of}
 use Rattle.column.proofs.Frame.{operand-length}
 use Rattle.column.proofs.Rows.{Sized, checked-vector}
-use Rattle.column.proofs.Proper.{Proper, proper-open}
+use Rattle.column.proofs.Proper.{proper-open}
 use Rattle.column.proofs.Walk.{run-passes, to-last}
 use Rattle.bench.specs.Said.{Said, own-of, is-good, message-of}
 use Rattle.bench.specs.Group.{bench-run, framed, heard-in, taking-first, calls-from, round-calls, Group-run}
-use Rattle.bench.specs.Listing.{column-line, group-line, column-lines, listing}
+use Rattle.bench.specs.Listing.{group-line, listing}
 use Rattle.bench.specs.Promise.{One-listing}
+use Rattle.bench.proofs.Wording.{lines-same}
 use Rattle.bench.proofs.Exchanged.{In-round, next-round-of, good-own}
 
 -- check values as bytes
@@ -67,10 +68,10 @@ module _ (s : Settings) (k : ℕ) (v : Value) (o : Opens s k v) where
   unfolding Frame-of operand-in
   frame-unique m r a b p x y =
       let size : (bs : List ℕ) → length bs ≡ frame-size (r .settings) (r .round) → length (drop 4 bs) ≡ operand-size s m =
-          λ bs e. operand-length (r .settings) (r .round) bs e ∙ ap₂ operand-size (p .proper .settings) (p .round) in
+      λ bs e. operand-length (r .settings) (r .round) bs e ∙ ap₂ operand-size (p .proper .settings) (p .round) in
       let same =
-          operand-unique m r (drop 4 a) (drop 4 b) p (size a (x .1)) (size b (y .1)) (subst (λ (i : ℕ). Operand i r (drop 4 a)) (p .round) (x .2))
-          (subst (λ (i : ℕ). Operand i r (drop 4 b)) (p .round) (y .2)) in
+      operand-unique m r (drop 4 a) (drop 4 b) p (size a (x .1)) (size b (y .1)) (subst (λ (i : ℕ). Operand i r (drop 4 a)) (p .round) (x .2))
+      (subst (λ (i : ℕ). Operand i r (drop 4 b)) (p .round) (y .2)) in
       sym (take-append-drop 4 a) ∙ ap₂ _++_ (x .0 ∙ sym (y .0)) same ∙ take-append-drop 4 b
 
   run-unique : (m : ℕ) (r q z : Rec) (cs : List Call) → In-round s k v m r → Run r cs q → Run r cs z → q ≡ z
@@ -127,8 +128,8 @@ module _ (f : Said) (opens : (k : ℕ) (v : Value) → own-of (f .owns) k ≡ so
             let o = opens-of (f .settings) i (v .0) (opens i (v .0) (v .1)) in
             let p = in-round records frames one i (v .0) (v .1) well m (omega arith) (omega arith) in
             let calls =
-                calls-alike (heard-in f (frames m) m i) (heard-in f (sent m) m i) (f .settings .n) 1
-                (λ x. heard-alike f (frames m) (sent m) m i x (λ fine. frames-same x fine)) in
+            calls-alike (heard-in f (frames m) m i) (heard-in f (sent m) m i) (f .settings .n) 1
+            (λ x. heard-alike f (frames m) (sent m) m i x (λ fine. frames-same x fine)) in
             run-unique (f .settings) i (v .0) o m (records m i) _ _ _ p (one .rounds m i (omega arith) (omega arith) well)
             (subst (λ (cs : List Call). Run (records m i) cs (others (suc m) i)) (sym calls)
             (subst (λ (r : Rec). Run r (calls-from (heard-in f (sent m) m i) (f .settings .n) 1) (others (suc m) i)) (sym (before i well))
@@ -141,18 +142,6 @@ module _ (f : Said) (opens : (k : ℕ) (v : Value) → own-of (f .owns) k ≡ so
                 frame-unique (f .settings) x (v .0) o (suc j) (records (suc j) x) _ _
                 (in-round records frames one x (v .0) (v .1) fine (suc j) (omega arith) (omega arith)) (one .sends (suc j) x (omega arith) (omega arith) fine)
                 (subst (λ (r : Rec). Frame-of r (sent (suc j) x)) (sym (before x fine)) (two .sends (suc j) x (omega arith) (omega arith) fine))
-
--- the lines of good columns
-lines-same :
-    (f : Said) (held others : ℕ → List Held) (many k : ℕ) → ((j : ℕ) → is-good f j ≡ true → held j ≡ others j) →
-    column-lines f held many k ≡ column-lines f others many k
-unfolding column-lines
-lines-same f held others zero k h = refl
-lines-same f held others (suc n) k h = ap₂ _++_ (go (is-good f k) refl) (lines-same f held others n (suc k) h)
-  where
-    go : (q : Bool) → is-good f k ≡ q → cond q (column-line k (held k)) [] ≡ cond q (column-line k (others k)) []
-    go true e = ap (column-line k) (h k e)
-    go false e = refl
 
 pub one-listing : One-listing
 unfolding One-listing listing
