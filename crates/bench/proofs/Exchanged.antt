@@ -20,7 +20,7 @@ use Rattle.column.proofs.Refusal.{Opens, opens-of}
 use Rattle.column.proofs.Lines.{first-of-later, send-lines}
 use Rattle.column.proofs.Size.{frame-fits-slot}
 use Rattle.column.proofs.Step.{step-of, after-take-round}
-use Rattle.column.proofs.Proper.{Proper, proper-open, proper-fine, proper-step}
+use Rattle.gradecast.proofs.Proper.{Proper, proper-open, proper-fine, proper-step}
 use Rattle.bench.specs.Said.{Said, own-of, is-good}
 use Rattle.bench.specs.Group.{bench-run, taking-first, calls-from, round-calls}
 use Rattle.bench.specs.Finished.{Finished, record-of, column-past, All-finished}

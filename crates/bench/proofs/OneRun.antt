@@ -24,8 +24,8 @@ use Rattle.column.specs.Call.{Call, Run, Passes, here, later, Operand, Frame-of
 use Rattle.column.proofs.Refusal.{Opens, opens-of}
 use Rattle.column.proofs.Frame.{operand-length}
 use Rattle.column.proofs.Rows.{Sized, checked-vector}
-use Rattle.column.proofs.Proper.{proper-open}
-use Rattle.column.proofs.Walk.{run-passes, to-last}
+use Rattle.gradecast.proofs.Proper.{proper-open}
+use Rattle.gradecast.proofs.Walk.{run-passes, to-last}
 use Rattle.bench.specs.Said.{Said, own-of, is-good, message-of}
 use Rattle.bench.specs.Group.{bench-run, framed, heard-in, taking-first, calls-from, round-calls, Group-run}
 use Rattle.bench.specs.Listing.{group-line, listing}

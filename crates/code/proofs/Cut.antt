@@ -3,6 +3,8 @@
 use mathlib.Core.Path.{_≡_, refl, sym, _∙_, ap, ap₂}
 use mathlib.Core.List.{List, [], _∷_, _++_}
 use Prim.Native.Nat.{ℕ, zero, suc, _+_, _*_, _<_, _≤_}
+use mir.Syntax.{w64}
+use mir.Val.{Fits}
 use native.Mathlib.Omega.{arith}
 use native.Mathlib.Nat.{suc-mul, mul-le-mul, mul-le-mul-right}
 use native.Mathlib.Numerals.{add-one}
@@ -19,6 +21,12 @@ next-value j w = ap (λ (k : ℕ). k * w) (add-one j) ∙ suc-mul j w
 
 pub value-fits : (j n w : ℕ) → j < n → j * w + w ≤ n * w
 value-fits j n w h = omega (arith, suc-mul j w, mul-le-mul-right w h)
+
+pub value-ends : (j n w long : ℕ) → j < n → long ≡ n * w → j * w + w ≤ long
+value-ends j n w long h e = omega (arith, value-fits j n w h)
+
+pub start-fits : (j n w : ℕ) → j < n → n * w ≤ 256 → Fits w64 (j * w)
+start-fits j n w h l = omega (arith, value-fits j n w h)
 
 pub values-fit : (n w : ℕ) → n ≤ 32 → w ≤ 8 → n * w ≤ 256
 values-fit n w h l = mul-le-mul h l

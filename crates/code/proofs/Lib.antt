@@ -12,6 +12,7 @@ pub mod Checks
 pub mod Quick
 pub mod Written
 pub mod Multiples
+pub mod Doublings
 pub mod Lane
 pub mod Part
 pub mod Cut

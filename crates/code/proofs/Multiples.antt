@@ -1,31 +1,40 @@
--- Products in all planes by rows of multiples. Row 2j is twice row j and row 2j + 1 one value more, so sixteen rows follow
--- from the value. A constant is its low four bits and sixteen times its high ones, so its product is a row of the value's
--- multiples and a row of the multiples of sixteen times the value. Small tests are computed. Assumes nothing.
+-- Products in all planes by rows of multiples. Row 2w is twice row w, and row 2w + k, for w a power of two and k below 2w, the sum
+-- of rows 2w and k, so sixteen rows follow from the value. A constant is its low four bits and sixteen times its high ones, so its
+-- product is a row of the value's multiples and a row of the multiples of sixteen times the value. Small tests are computed.
+-- Assumes nothing.
 use mathlib.Core.Path.{_≡_, refl, sym, _∙_, ap, ap₂, subst}
 use mathlib.Core.Bool.{true}
 use mathlib.Core.List.{List}
-use Prim.Native.Nat.{ℕ, _+_, _*_, _/_, _%_, _<_}
+use mathlib.Core.Logic.{_⊎_, inl, inr}
+use Prim.Native.Nat.{ℕ, zero, suc, _+_, _*_, _/_, _%_, _≤_, _<_}
 use native.Mathlib.Omega.{arith}
-use native.Mathlib.Decide.{decLt, ℕ-discrete}
+use native.Mathlib.Decide.{decLt}
 use lib.Dec.{eqb, eqb→eq}
-use lib.ListN.{length, getD}
+use lib.ListN.{length, getD, set, length-set}
+use lib.Seq.{getD-set-same, getD-set-other}
+use borrow.Author.Count.{below-more}
+use borrow.Author.Tests.{le-ltb}
 use Rattle.field.specs.Field.{plus, xor-from, doubled, times, times-from}
 use Rattle.field.proofs.Test.{below}
-use Rattle.field.proofs.Xor.{plus-assoc}
-use Rattle.field.proofs.Times.{times-plus, times-zero, times-doubled}
+use Rattle.field.proofs.Xor.{plus-assoc, plus-lt}
+use Rattle.field.proofs.Times.{doubled-lt, times-plus, times-zero, times-doubled}
 use Rattle.field.proofs.Logarithm.{times-comm, times-assoc, times-one}
 use Rattle.code.proofs.Written.{all-zero, zero-at}
 use Rattle.code.specs.Array.{Written}
 use Rattle.code.specs.Lanes.{Multiples, Products-added}
 
+pub doubled-byte : (a : ℕ) → doubled a < 256
+unfolding doubled
+doubled-byte a = go (decLt a 128)
+  where
+    go : Dec (a < 128) → doubled a < 256
+    go (yes h) = doubled-lt a (omega arith)
+    go (no h) = rw (le-ltb a 128 (omega arith)) (plus-lt _ _)
+
 -- small numbers as factors
 doubled-small : (k : ℕ) → k < 128 → doubled k ≡ 2 * k
 unfolding doubled
 doubled-small k h = eqb→eq _ _ (below (λ m. eqb (doubled m) (2 * m)) 128 tt k h)
-
-plus-one : (k : ℕ) → k < 128 → plus (2 * k) 1 ≡ 2 * k + 1
-unfolding plus xor-from
-plus-one k h = eqb→eq _ _ (below (λ m. eqb (plus (2 * m) 1) (2 * m + 1)) 128 tt k h)
 
 sixteen-times : (k : ℕ) → k < 16 → times 16 k ≡ 16 * k
 unfolding times times-from doubled plus xor-from
@@ -40,9 +49,6 @@ times-twice a k h l =
     ap (times a) (sym (doubled-small k l)) ∙ times-comm a (doubled k) h (rw (doubled-small k l) (omega arith)) ∙ times-doubled k a (omega arith)
     ∙ ap doubled (times-comm k a (omega arith) h)
 
-times-next : (a k : ℕ) → a < 256 → k < 128 → times a (2 * k + 1) ≡ plus (times a (2 * k)) a
-times-next a k h l = ap (times a) (sym (plus-one k l)) ∙ times-plus a (2 * k) 1 h ∙ ap (plus (times a (2 * k))) (times-one a h)
-
 pub times-halves : (a c : ℕ) → a < 256 → c < 256 → plus (times a (c % 16)) (times (doubled (times a 8)) (c / 16)) ≡ times a c
 times-halves a c h l =
     ap (plus (times a (c % 16)))
@@ -50,72 +56,109 @@ times-halves a c h l =
     ∙ ap (times a) (sixteen-times (c / 16) (omega arith)))
     ∙ sym (times-plus a (c % 16) (16 * (c / 16)) h) ∙ ap (times a) (plus-halves c l)
 
--- the first 2j rows of multiples, and row 0
-pub record Multiples-to (j : ℕ) (value rows : List ℕ) : Type 0 where
+-- row 0 and the first bytes of row 1
+pub record First-bytes (many : ℕ) (f : ℕ → ℕ) (rows : List ℕ) : Type 0 where
   pub long : length rows ≡ 128
   pub zeros : (p : ℕ) → p < 8 → getD rows p 0 ≡ 0
-  pub row : (k p : ℕ) → k < 2 * j → p < 8 → getD rows (8 * k + p) 0 ≡ times (getD value p 0) k
+  pub ones : (p : ℕ) → p < many → getD rows (8 + p) 0 ≡ f p
+  pub fits : (p : ℕ) → p < many → f p < 256
 
-pub multiples-none : (value rows : List ℕ) → length rows ≡ 128 → all-zero rows ≡ true → Multiples-to 0 value rows
-multiples-none value rows e z = record { long = e; zeros = λ p h. zero-at rows z p; row = λ k p h l. absurd (omega arith) }
+pub first-none : (f : ℕ → ℕ) (rows : List ℕ) → length rows ≡ 128 → all-zero rows ≡ true → First-bytes 0 f rows
+first-none f rows e z = record { long = e; zeros = λ p h. zero-at rows z p; ones = λ p h. absurd (omega arith); fits = λ p h. absurd (omega arith) }
 
-pub multiples-step :
-    (j : ℕ) (value rows middle now : List ℕ) → j < 8 → ((p : ℕ) → getD value p 0 < 256) → Multiples-to j value rows →
-    Written (16 * j) 8 (λ p. doubled (getD rows (8 * j + p) 0)) rows middle →
-    Written (8 * (2 * j) + 8) 8 (λ p. plus (getD middle (8 * (2 * j) + p) 0) (getD value p 0)) middle now → Multiples-to (j + 1) value now
-multiples-step j value rows middle now h byte m w v =
-    record { long = v .long ∙ w .long ∙ m .long; zeros = λ p l. v .before p (omega arith) ∙ first p l (ℕ-discrete j 0); row = row }
+pub first-more :
+    (many v : ℕ) (f : ℕ → ℕ) (rows : List ℕ) → many < 8 → v ≡ f many → f many < 256 → First-bytes many f rows → First-bytes (many + 1) f (set rows (8 + many) v)
+first-more many v f rows h e byte m =
+    record {
+      long = length-set rows (8 + many) v ∙ m .long;
+      zeros = λ p l. getD-set-other rows (8 + many) p v 0 (omega arith) ∙ m .zeros p l;
+      ones =
+          below-more _ many (λ p l. getD-set-other rows (8 + many) (8 + p) v 0 (omega arith) ∙ m .ones p l)
+          (getD-set-same rows (8 + many) v 0 (let g = m .long in omega arith) ∙ e);
+      fits = below-more _ many (m .fits) byte;
+    }
+
+pub first-whole : (many : ℕ) (f : ℕ → ℕ) (rows : List ℕ) → many ≡ 8 → First-bytes many f rows → Multiples 2 f rows
+first-whole many f rows e m = record { long = m .long; row = row }
   where
-    half : (p : ℕ) → p < 8 → Dec (j ≡ 0) → getD rows (8 * j + p) 0 ≡ times (getD value p 0) j
-    half p l (yes e) =
-        ap (λ (i : ℕ). getD rows i 0) (let q : 8 * j + p ≡ p = omega arith in q) ∙ m .zeros p l
-        ∙ sym (ap (times (getD value p 0)) e ∙ times-zero (getD value p 0) (byte p))
-    half p l (no e) = m .row j p (omega arith) l
+    row : (k p : ℕ) → k < 2 → p < 8 → getD rows (8 * k + p) 0 ≡ times (f p) k
+    row zero p h l = ap (λ (i : ℕ). getD rows i 0) (let q : 8 * 0 + p ≡ p = omega arith in q) ∙ m .zeros p l ∙ sym (times-zero (f p) (m .fits p (omega arith)))
+    row (suc zero) p h l =
+        ap (λ (i : ℕ). getD rows i 0) (let q : 8 * 1 + p ≡ 8 + p = omega arith in q) ∙ m .ones p (omega arith) ∙ sym (times-one (f p) (m .fits p (omega arith)))
+    row (suc (suc k)) p h l = absurd (omega arith)
 
-    even : (p : ℕ) → p < 8 → getD middle (16 * j + p) 0 ≡ times (getD value p 0) (2 * j)
-    even p l = w .new p l ∙ ap doubled (half p l (ℕ-discrete j 0)) ∙ sym (times-twice (getD value p 0) j (byte p) (omega arith))
+-- one more row
+multiples-next :
+    (many : ℕ) (f g : ℕ → ℕ) (rows now : List ℕ) → Multiples many f rows → Written (8 * many) 8 g rows now →
+    ((p : ℕ) → p < 8 → g p ≡ times (f p) many) → Multiples (many + 1) f now
+multiples-next many f g rows now m w new = record { long = w .long ∙ m .long; row = λ k p h l. row k p h l (decLt k many) }
+  where
+    row : (k p : ℕ) → k < many + 1 → p < 8 → Dec (k < many) → getD now (8 * k + p) 0 ≡ times (f p) k
+    row k p h l (yes a) = w .before _ (omega arith) ∙ m .row k p a l
+    row k p h l (no a) =
+        let q : k ≡ many = omega arith in
+        rw q (w .new p l ∙ new p l)
 
-    first : (p : ℕ) → p < 8 → Dec (j ≡ 0) → getD middle p 0 ≡ 0
-    first p l (yes e) =
-        ap (λ (i : ℕ). getD middle i 0) (let q : p ≡ 16 * j + p = omega arith in q) ∙ even p l
-        ∙ ap (times (getD value p 0)) (let q : 2 * j ≡ 0 = omega arith in q) ∙ times-zero (getD value p 0) (byte p)
-    first p l (no e) = w .before p (omega arith) ∙ m .zeros p l
+pub multiples-double :
+    (w : ℕ) (f : ℕ → ℕ) (rows now : List ℕ) → 1 ≤ w → w ≤ 4 → ((p : ℕ) → f p < 256) → Multiples (2 * w) f rows →
+    Written (8 * (2 * w)) 8 (λ p. doubled (getD rows (8 * w + p) 0)) rows now → Multiples (2 * w + 1) f now
+multiples-double w f rows now h l byte m v =
+    multiples-next (2 * w) f _ rows now m v
+    (λ p k. ap doubled (m .row w p (omega arith) k) ∙ sym (times-twice (f p) w (byte p) (omega arith)))
 
-    row : (k p : ℕ) → k < 2 * (j + 1) → p < 8 → getD now (8 * k + p) 0 ≡ times (getD value p 0) k
-    row k p g l = go (decLt k (2 * j)) (ℕ-discrete k (2 * j))
-      where
-        go : Dec (k < 2 * j) → Dec (k ≡ 2 * j) → getD now (8 * k + p) 0 ≡ times (getD value p 0) k
-        go (yes a) d = v .before _ (omega arith) ∙ w .before _ (omega arith) ∙ m .row k p a l
-        go (no a) (yes e) =
-            v .before _ (omega arith) ∙ ap (λ (i : ℕ). getD middle i 0) (let q : 8 * k + p ≡ 16 * j + p = omega arith in q) ∙ even p l
-            ∙ ap (times (getD value p 0)) (sym e)
-        go (no a) (no e) =
-            ap (λ (i : ℕ). getD now i 0) (let q : 8 * k + p ≡ 8 * (2 * j) + 8 + p = omega arith in q) ∙ v .new p l
-            ∙ ap (λ (b : ℕ). plus b (getD value p 0))
-            (ap (λ (i : ℕ). getD middle i 0) (let q : 8 * (2 * j) + p ≡ 16 * j + p = omega arith in q) ∙ even p l)
-            ∙ sym (times-next (getD value p 0) j (byte p) (omega arith))
-            ∙ ap (times (getD value p 0)) (let q : 2 * j + 1 ≡ k = omega arith in q)
+pub multiples-join :
+    (w k : ℕ) (f : ℕ → ℕ) (rows now : List ℕ) → k < w → plus w k ≡ w + k → ((p : ℕ) → f p < 256) → Multiples (w + k) f rows → 1 ≤ k →
+    Written (8 * (w + k)) 8 (λ p. plus (getD rows (8 * w + p) 0) (getD rows (8 * k + p) 0)) rows now → Multiples (w + k + 1) f now
+multiples-join w k f rows now h e byte m o v =
+    multiples-next (w + k) f _ rows now m v
+    (λ p l. ap₂ plus (m .row w p (omega arith) l) (m .row k p (omega arith) l) ∙ sym (times-plus (f p) w k (byte p)) ∙ ap (times (f p)) e)
 
-pub multiples-whole : (j : ℕ) (value rows : List ℕ) → j ≡ 8 → Multiples-to j value rows → Multiples value rows
-multiples-whole j value rows e m = record { long = m .long; row = λ k p h l. m .row k p (omega arith) l }
+pub multiples-to : {many more : ℕ} {f : ℕ → ℕ} {rows : List ℕ} → many ≡ more → Multiples many f rows → Multiples more f rows
+multiples-to {many} {more} {f} {rows} e m = subst (λ (k : ℕ). Multiples k f rows) e m
 
--- one more row of products: a low and a high multiple added to it
+-- a sum of a power of two and less is their exclusive or
+pub plus-below : (w k : ℕ) → (w ≡ 1) ⊎ ((w ≡ 2) ⊎ (w ≡ 4)) → k < 2 * w → plus (2 * w) k ≡ 2 * w + k
+unfolding plus xor-from
+plus-below w k (inl e) h = rw e (eqb→eq _ _ (below (λ m. eqb (plus 2 m) (2 + m)) 2 tt k (omega arith)))
+plus-below w k (inr (inl e)) h = rw e (eqb→eq _ _ (below (λ m. eqb (plus 4 m) (4 + m)) 4 tt k (omega arith)))
+plus-below w k (inr (inr e)) h = rw e (eqb→eq _ _ (below (λ m. eqb (plus 8 m) (8 + m)) 8 tt k (omega arith)))
+
+-- one more row of products
 pub products-none : (value constants rows : List ℕ) → Products-added 0 value constants rows rows
 products-none value constants rows = record { long = refl; sums = λ j p h l. absurd (omega arith); rest = λ i h. refl }
 
+pub products-next :
+    (j : ℕ) (value constants rows so-far now : List ℕ) (g : ℕ → ℕ) → Products-added j value constants rows so-far → Written (8 * j) 8 g so-far now →
+    ((p : ℕ) → p < 8 → g p ≡ plus (getD so-far (8 * j + p) 0) (times (getD value p 0) (getD constants j 0))) →
+    Products-added (j + 1) value constants rows now
+products-next j value constants rows so-far now g a w new =
+    record { long = w .long ∙ a .long; sums = λ i p h k. sums i p h k (decLt i j); rest = λ i h. w .after i (omega arith) ∙ a .rest i (omega arith) }
+  where
+    sums :
+        (i p : ℕ) → i < j + 1 → p < 8 → Dec (i < j) →
+        getD now (8 * i + p) 0 ≡ plus (getD rows (8 * i + p) 0) (times (getD value p 0) (getD constants i 0))
+    sums i p h k (yes d) = w .before _ (omega arith) ∙ a .sums i p d k
+    sums i p h k (no d) =
+        let e : i ≡ j = omega arith in
+        rw e (w .new p k ∙ new p k ∙ ap (λ (b : ℕ). plus b (times (getD value p 0) (getD constants j 0))) (a .rest (8 * j + p) (omega arith)))
+
+-- by a low and a high multiple
 pub products-more :
-    (j : ℕ) (value sixteen constants low high rows so-far middle now : List ℕ) → ((p : ℕ) → getD value p 0 < 256) → getD constants j 0 < 256 →
-    Multiples value low → Multiples sixteen high → ((p : ℕ) → p < 8 → getD sixteen p 0 ≡ doubled (getD low (64 + p) 0)) →
+    (j : ℕ) (value constants low high rows so-far middle now : List ℕ) → ((p : ℕ) → getD value p 0 < 256) → getD constants j 0 < 256 →
+    Multiples 16 (λ p. getD value p 0) low → Multiples 16 (λ p. doubled (getD low (64 + p) 0)) high →
     Products-added j value constants rows so-far →
     Written (8 * j) 8 (λ p. plus (getD so-far (8 * j + p) 0) (getD low (8 * (getD constants j 0 % 16) + p) 0)) so-far middle →
     Written (8 * j) 8 (λ p. plus (getD middle (8 * j + p) 0) (getD high (8 * (getD constants j 0 / 16) + p) 0)) middle now →
     Products-added (j + 1) value constants rows now
-products-more j value sixteen constants low high rows so-far middle now byte fits l h s a w v =
-    record {
-      long = v .long ∙ w .long ∙ a .long;
-      sums = sums;
-      rest = λ i g. v .after i (omega arith) ∙ w .after i (omega arith) ∙ a .rest i (omega arith);
-    }
+products-more j value constants low high rows so-far middle now byte fits l h a w v =
+    products-next j value constants rows so-far now (λ p. plus (plus (getD so-far (8 * j + p) 0) (getD low (8 * (c % 16) + p) 0)) (getD high (8 * (c / 16) + p) 0)) a
+    (record {
+      long = v .long ∙ w .long;
+      new = λ p k. v .new p k ∙ ap (λ (b : ℕ). plus b (getD high (8 * (c / 16) + p) 0)) (w .new p k);
+      before = λ i k. v .before i k ∙ w .before i k;
+      after = λ i k. v .after i k ∙ w .after i k;
+    })
+    (λ p k. plus-assoc _ _ _ ∙ ap (plus (getD so-far (8 * j + p) 0)) (product p k))
   where
     c : ℕ
     c = getD constants j 0
@@ -124,19 +167,8 @@ products-more j value sixteen constants low high rows so-far middle now byte fit
     product p g =
         ap₂ plus (l .row (c % 16) p (omega arith) g)
         (h .row (c / 16) p (omega arith) g
-        ∙ ap (λ (x : ℕ). times x (c / 16)) (s p g ∙ ap doubled (l .row 8 p (omega arith) g)))
+        ∙ ap (λ (x : ℕ). times (doubled x) (c / 16)) (l .row 8 p (omega arith) g))
         ∙ times-halves (getD value p 0) c (byte p) fits
-
-    sums : (i p : ℕ) → i < j + 1 → p < 8 → getD now (8 * i + p) 0 ≡ plus (getD rows (8 * i + p) 0) (times (getD value p 0) (getD constants i 0))
-    sums i p g k = go (decLt i j)
-      where
-        go : Dec (i < j) → getD now (8 * i + p) 0 ≡ plus (getD rows (8 * i + p) 0) (times (getD value p 0) (getD constants i 0))
-        go (yes d) = v .before _ (omega arith) ∙ w .before _ (omega arith) ∙ a .sums i p d k
-        go (no d) =
-            let e : i ≡ j = omega arith in
-            rw e
-            (v .new p k ∙ ap (λ (b : ℕ). plus b (getD high (8 * (c / 16) + p) 0)) (w .new p k) ∙ plus-assoc _ _ _
-            ∙ ap₂ plus (a .rest (8 * j + p) (omega arith)) (product p k))
 
 pub products-to :
     {many k : ℕ} {value constants rows now : List ℕ} → many ≡ k → Products-added many value constants rows now → Products-added k value constants rows now

@@ -3,7 +3,7 @@ use mathlib.Core.Path.{_≡_}
 use mathlib.Core.List.{List, [], _∷_}
 use Prim.Native.Nat.{ℕ, zero, suc, _+_, _*_, _-_, _≤_, _<_}
 use lib.ListN.{length, getD, drop}
-use Rattle.field.specs.Field.{plus, times, power}
+use Rattle.field.specs.Field.{plus, doubled, times, power}
 use Rattle.code.specs.Polynomial.{eval}
 
 -- plane p of the first rows
@@ -11,10 +11,20 @@ unfoldable pub lane : (p rows : ℕ) → List ℕ → List ℕ
 lane p zero bs = []
 lane p (suc k) bs = getD bs p 0 ∷ lane p k (drop 8 bs)
 
--- row k is k times the value, for each k below 16
-pub record Multiples (value rows : List ℕ) : Type 0 where
+-- each of the first rows k is k times the value with the bytes f
+pub record Multiples (many : ℕ) (f : ℕ → ℕ) (rows : List ℕ) : Type 0 where
   pub long : length rows ≡ 128
-  pub row : (k p : ℕ) → k < 16 → p < 8 → getD rows (8 * k + p) 0 ≡ times (getD value p 0) k
+  pub row : (k p : ℕ) → k < many → p < 8 → getD rows (8 * k + p) 0 ≡ times (f p) k
+
+-- where the first rows are so many multiples of any value of bytes, they now are more of them
+abbrev pub Continued : (many more : ℕ) → (rows rows-now : List ℕ) → Type 0
+Continued many more rows rows-now = (f : ℕ → ℕ) → ((p : ℕ) → f p < 256) → Multiples many f rows → Multiples more f rows-now
+
+-- row 1 is the value with the bytes f, and each row up to the last named is twice the one before
+pub record Doublings (last : ℕ) (f : ℕ → ℕ) (rows : List ℕ) : Type 0 where
+  pub long : length rows ≡ 128
+  pub first : (p : ℕ) → p < 8 → getD rows (8 + p) 0 ≡ f p
+  pub next : (k p : ℕ) → 1 ≤ k → k < last → p < 8 → getD rows (8 * (k + 1) + p) 0 ≡ doubled (getD rows (8 * k + p) 0)
 
 -- to each of the first rows j of each plane its value times constant j is added, and every other byte is kept
 pub record Products-added (many : ℕ) (value constants rows rows-now : List ℕ) : Type 0 where

@@ -5,10 +5,26 @@ ghost use lib.ListN.{length, getD};
 ghost use Rattle.code.specs.Array.{Written};
 ghost use Rattle.code.specs.Lanes.{Loaded, Stored};
 
+// Eight bytes, which compiles to one step.
+fn copy_row(to: &mut [u8], at: usize, from: &[u8], start: usize)
+    requires { ⌜ (at + 8 ≤ length (now to)) × (start + 8 ≤ length (now from)) ⌝ }
+    ensures { λ _. ⌜ Written at 8 (λ p. getD (now (from .entry)) (start + p) 0) (now (to .entry)) (now (to .exit)) ⌝ }
+{
+    let mut p = 0;
+    while p < 8 {
+        to[at + p] = from[start + p];
+        p += 1;
+    }
+}
+
 pub fn copy_value(to: &mut [u8], at: usize, from: &[u8], start: usize, size: usize)
     requires { ⌜ (at + size ≤ length (now to)) × (start + size ≤ length (now from)) ⌝ }
     ensures { λ _. ⌜ Written at size (λ p. getD (now (from .entry)) (start + p) 0) (now (to .entry)) (now (to .exit)) ⌝ }
 {
+    if size == 8 {
+        copy_row(to, at, from, start);
+        return;
+    }
     let mut p = 0;
     while p < size {
         to[at + p] = from[start + p];
@@ -24,7 +40,8 @@ pub fn load(vector: &[u8], n: usize, size: usize) -> [u8; 416]
     let mut rows = [0u8; 416];
     let mut i = 0;
     while i < n {
-        copy_value(&mut rows, 8 * i, vector, (n - 1 - i) * size, size);
+        let from = n - 1 - i;
+        copy_value(&mut rows, 8 * i, vector, from * size, size);
         i += 1;
     }
     rows

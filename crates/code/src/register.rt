@@ -28,10 +28,9 @@ fn times_factor(
     product[0] = field::product_by(powers, logarithms, c, fewer[0]);
     let mut i = 1;
     while i <= many {
-        product[i] = field::sum(
-            fewer[i - 1],
-            field::product_by(powers, logarithms, c, fewer[i]),
-        );
+        let below = fewer[i - 1];
+        let here = fewer[i];
+        product[i] = field::sum(below, field::product_by(powers, logarithms, c, here));
         i += 1;
     }
     product

@@ -1,10 +1,6 @@
 pub mod Bool
 pub mod Value
 pub mod Order
-pub mod Count
-pub mod Most
-pub mod Grade
-pub mod Agreement
 pub mod Refusal
 pub mod Frame
 pub mod View
@@ -20,14 +16,3 @@ pub mod SenderRow
 pub mod AfterRound
 pub mod Rows
 pub mod Step
-pub mod Proper
-pub mod Walk
-pub mod Goods
-pub mod Handed
-pub mod Rounds
-pub mod Gradecast
-pub mod Built
-pub mod Cases
-pub mod Quick
-pub mod Listing
-pub mod Example

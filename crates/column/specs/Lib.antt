@@ -10,4 +10,3 @@ pub mod Entry
 pub mod Table
 pub mod Senders
 pub mod Closing
-pub mod Built

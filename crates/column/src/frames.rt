@@ -66,7 +66,8 @@ pub fn frame_refusal(
     if frame.len() != frame_size(t, w, sent) {
         return 11;
     }
-    if frame[1] as u32 != slot {
+    let sender = frame[1] as u32;
+    if sender != slot {
         return 12;
     }
     if run_number(frame[2], frame[3]) != run as u32 {

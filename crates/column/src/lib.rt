@@ -48,14 +48,11 @@ pub fn take(column: Column, slot: u32, frame: &[u8]) -> Outcome
 {
     let early = refusals::slot_refusal(column, slot);
     if early != 0 {
-        return Outcome {
-            answer: early,
-            column,
-        };
+        return record::refused(early, column);
     }
     let k = (slot - 1) as usize;
     let place = column.slots[k];
-    let refusal = frames::frame_refusal(
+    let answer = frames::frame_refusal(
         column.t,
         column.w,
         column.run,
@@ -64,16 +61,12 @@ pub fn take(column: Column, slot: u32, frame: &[u8]) -> Outcome
         place.taken,
         frame,
     );
-    if refusal != 0 {
-        let counted = record::counted(column);
-        return Outcome {
-            answer: refusal,
-            column: counted,
-        };
+    if 0 < answer {
+        return record::refused(answer, column);
     }
     let kept = taking::keep(column, slot, frame);
     Outcome {
-        answer: 0,
+        answer,
         column: kept,
     }
 }

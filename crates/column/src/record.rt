@@ -1,7 +1,8 @@
 // A column's record: plain data, by value. Any bit pattern of it is a record, and each call checks it again.
 ghost use mathlib.Core.Path.{_≡_};
-ghost use Rattle.column.specs.Record.{raised};
-ghost use Rattle.column.specs.Entry.{no-column, with-count};
+ghost use Rattle.column.specs.Record.{raised as «raised-of»};
+ghost use Rattle.column.specs.Refusal.{counts-up};
+ghost use Rattle.column.specs.Entry.{no-column, after-refusal};
 
 // One column's slot in a round: whether its frame was taken, which any number but 0 says, and the frame.
 #[repr(C)]
@@ -69,14 +70,37 @@ pub fn empty() -> Column
     }
 }
 
-// The record with one more frame refused; the count stays at its top.
-pub fn counted(column: Column) -> Column
-    ensures { λ r. ⌜ r ≡ with-count column (raised (column .refused)) ⌝ }
+// The numbers that count as refused frames: 9 to 15.
+fn counts_up(answer: u32) -> bool
+    ensures { λ r. ⌜ r ≡ counts-up answer ⌝ }
 {
-    if column.refused == 4294967295 {
-        return column;
+    if answer < 9 {
+        return false;
     }
-    let mut more = column;
-    more.refused = column.refused + 1;
-    more
+    answer <= 15
+}
+
+// One more in a count that stays at its top.
+fn raised(count: u32) -> u32
+    ensures { λ r. ⌜ r ≡ raised-of count ⌝ }
+{
+    if count == 4294967295 {
+        return count;
+    }
+    count + 1
+}
+
+// A refusal: the record is as before, but for the count under 9 to 15.
+pub fn refused(answer: u32, column: Column) -> Outcome
+    ensures { λ r. ⌜ (r .answer ≡ answer) × (r .column ≡ after-refusal answer column) ⌝ }
+{
+    if counts_up(answer) {
+        let mut more = column;
+        more.refused = raised(column.refused);
+        return Outcome {
+            answer,
+            column: more,
+        };
+    }
+    Outcome { answer, column }
 }

@@ -56,8 +56,8 @@ fn is_better(a: Counted, best: Counted, w: usize) -> bool
     requires { ⌜ w ≤ 8 ⌝ }
     ensures { λ r. ⌜ r ≡ better-by (a .times) (best .times) (take w (a .value)) (take w (best .value)) ⌝ }
 {
-    let value = a.value;
-    if values::is_blank(value, w) {
+    let candidate = a.value;
+    if values::is_blank(candidate, w) {
         return false;
     }
     let best_value = best.value;
@@ -70,7 +70,7 @@ fn is_better(a: Counted, best: Counted, w: usize) -> bool
     if a.times < best.times {
         return false;
     }
-    values::is_before(value, best_value, w)
+    values::is_before(candidate, best_value, w)
 }
 
 // The better of the value in row i, column k and the best so far. A value that is the best already is not counted again.

@@ -20,7 +20,7 @@ use Rattle.code.specs.Entry.{values-in, in-front}
 use Rattle.code.specs.Lanes.{lane}
 use Rattle.code.proofs.Bytes.{Bytes, bytes-zeros}
 use Rattle.code.proofs.Cut.{cut-length, cut-values, glued-cut}
-use Rattle.code.proofs.Lane.{lane-at, lane-zeros}
+use Rattle.code.proofs.Lane.{lane-length, lane-at, lane-zeros, lane-bytes}
 use Rattle.code.proofs.Near.{differ-self}
 use Rattle.code.proofs.Vector.{Values, plane-length, plane-bytes, vector-back}
 use Rattle.code.proofs.Word.{sizes, word-back}
@@ -71,7 +71,7 @@ some-bad (suc t) w own checks rows false z q d = omega arith
 pub decoded-long :
     (found : Bool) (planes : ℕ) (s : Settings) (sums weighted : List ℕ) → found ≡ true → Decoded-as found planes s sums weighted → length weighted ≡ 416
 unfolding Decoded-as
-decoded-long true planes s sums weighted e d = d .0 .long
+decoded-long true planes s sums weighted e d = d .long
 decoded-long false planes s sums weighted e d = absurd (let y : _≡_ {A = ℕ} 0 1 = cc in omega arith)
 
 -- a vector copied to the front of an output
@@ -167,12 +167,13 @@ module _ (n t w : ℕ) (vector own checks rows : List ℕ) (allowed : settings-r
           (
             column-errors n 0 w weighted,
             record {
-              vector = column-errors-vector s weighted small (omega (arith, d .0 .long, sizes s allowed .few-columns));
+              vector = column-errors-vector s weighted small (omega (arith, d .long, sizes s allowed .few-columns));
               planes = λ p h.
                   let near =
                   sound s (plane p apart) (plane-sums p (2 * t) sums) allowed (apart-long p) (apart-bytes p) (same-sums p h)
-                  (lane p (n + 2 * t) weighted) (plane p (column-errors n 0 w weighted)) (d .0 .located p h) (d .1 p h)
-                  (column-errors-plane s p (n + 2 * t) weighted h (omega arith) (d .0 .bytes)) in
+                  (lane p (n + 2 * t) weighted) (plane p (column-errors n 0 w weighted)) (lane-length p (n + 2 * t) weighted)
+                  (lane-bytes p (n + 2 * t) weighted (d .bytes)) (d .each p h)
+                  (column-errors-plane s p (n + 2 * t) weighted h (omega arith) (d .bytes)) in
                   (near .0, rw (plane-zeros s p) (near .1));
             },
             back,

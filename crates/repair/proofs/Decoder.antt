@@ -1,8 +1,8 @@
--- The decoder of a plane, for zero bytes and the difference of checks: the errors that the locator tells are the answer where
--- they explain the syndromes, and where they do not, or the locator is longer than t, no codeword is near. Assumes nothing.
+-- The decoder of a plane, for zero bytes and the difference of checks: errors that explain the syndromes are the answer, wherever
+-- they are from; and where those that the locator tells do not, or it is longer than t, no codeword is near. Assumes nothing.
 use mathlib.Core.Path.{_≡_, sym, _∙_, ap₂}
 use mathlib.Core.List.{List}
-use Prim.Native.Nat.{ℕ, _<_, _≤_}
+use Prim.Native.Nat.{ℕ, _+_, _<_, _≤_}
 use native.Mathlib.Omega.{arith}
 use lib.ListN.{length, getD, take, drop, replicate, length-replicate, getD-replicate}
 use lib.Seq.{length-take-le, getD-take, ext-getD}
@@ -17,7 +17,7 @@ use Rattle.code.proofs.Word.{Shape}
 use Rattle.repair.specs.Locator.{massey}
 use Rattle.repair.specs.Errors.{error-byte, Located, Explained, Error-bytes}
 use Rattle.repair.proofs.Mended.{mended, mended-length, mended-at}
-use Rattle.repair.proofs.Sound.{located-bytes, explained-near}
+use Rattle.repair.proofs.Sound.{explained-near}
 use Rattle.repair.proofs.Complete.{near-size, near-explained}
 
 -- zero bytes with their errors added are the errors
@@ -46,11 +46,12 @@ module _ (s : Settings) (cs : List ℕ) (S : ℕ → ℕ) (r : settings-refusal 
 
   -- what is found is near
   pub sound :
-      (ys es : List ℕ) → Located s S ys → Explained s S ys → Error-bytes s ys es → (ds : List ℕ) × Near s (replicate (s .n) 0) cs es ds
-  sound ys es located explained errors = (
+      (ys es : List ℕ) → length ys ≡ s .n + check-count s → Bytes ys → Explained s S ys → Error-bytes s ys es →
+      (ds : List ℕ) × Near s (replicate (s .n) 0) cs es ds
+  sound ys es long bytes explained errors = (
     mended s (s .n) cs (drop (s .n) ys),
-    rw (mended-zeros s ys es (omega (arith, located .many)) errors)
-        (explained-near s (replicate (s .n) 0) cs ys S r shape same (located .many) (located-bytes s S ys located) explained),
+    rw (mended-zeros s ys es (omega arith) errors)
+        (explained-near s (replicate (s .n) 0) cs ys S r shape same long bytes explained),
   )
 
   -- what is near is found

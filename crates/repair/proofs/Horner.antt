@@ -1,5 +1,5 @@
--- Loops over the coefficients of a polynomial, from the highest down. After the coefficients from m on a loop has the sum, the
--- value, or the quotient's value and sum, of `drop m`; a turn adds coefficient m - 1, and at 0 the polynomial is whole.
+-- Loops over the coefficients of a polynomial, from the highest down. After the coefficients from m on a loop has the sum, or the
+-- value and the quotient's value and sum, of `drop m`; a turn adds coefficient m - 1, and at 0 the polynomial is whole.
 -- Assumes nothing.
 use mathlib.Core.Path.{_≡_, sym, _∙_, ap, ap₂}
 use mathlib.Core.List.{List}
@@ -35,20 +35,12 @@ against-done p S j zero a h e = e ∙ ap (against p S) (add-zero j)
 against-done p S j (suc m) a h e = absurd (omega arith)
 
 -- the value at x
-pub eval-end : (p : List ℕ) (x : ℕ) → 0 ≡ eval (drop (length p) p) x
-unfolding eval
-eval-end p x = rw (drop-length p)
-
-pub eval-turn :
+eval-turn :
     (p : List ℕ) (x m a : ℕ) → 0 < m → m ≤ length p → a ≡ eval (drop m p) x →
     plus (getD p (m - 1) 0) (times x a) ≡ eval (drop (m - 1) p) x
 eval-turn p x zero a h l e = absurd (omega arith)
 eval-turn p x (suc m) a h l e =
     rw (let q : suc m - 1 ≡ m = omega arith in q, eval-drop p m l x) (ap (λ (z : ℕ). plus (getD p m 0) (times x z)) e)
-
-pub eval-done : (p : List ℕ) (x m a : ℕ) → m ≤ 0 → a ≡ eval (drop m p) x → a ≡ eval p x
-eval-done p x zero a h e = e
-eval-done p x (suc m) a h e = absurd (omega arith)
 
 -- what the loop has after the coefficients from m on
 pub record Divided (p : List ℕ) (S : ℕ → ℕ) (x whole divided sum m : ℕ) : Type 0 where

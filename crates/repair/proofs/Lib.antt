@@ -24,11 +24,13 @@ pub mod CheckSums
 pub mod ErrorSums
 pub mod PlaceRows
 pub mod PlacePowers
+pub mod Listing
 pub mod ColumnErrors
 pub mod Located
 pub mod PlaneLocators
 pub mod PlaneErrors
 pub mod PlaneDecoder
+pub mod OneError
 pub mod Answer
 pub mod Entry
 pub mod OwnChecks

@@ -23,11 +23,11 @@ pub place-exponent-settings : (s : Settings) (j : ℕ) → exponent s j ≡ plac
 unfolding exponent place-exponent
 place-exponent-settings s j = refl
 
-place-exponent-column : (n checks j : ℕ) → j < n → place-exponent n checks j ≡ 254 - j
+pub place-exponent-column : (n checks j : ℕ) → j < n → place-exponent n checks j ≡ 254 - j
 unfolding place-exponent
 place-exponent-column n checks j h = rw (lt-ltb j n h)
 
-place-exponent-check : (n checks j : ℕ) → n ≤ j → place-exponent n checks j ≡ n + checks - suc j
+pub place-exponent-check : (n checks j : ℕ) → n ≤ j → place-exponent n checks j ≡ n + checks - suc j
 unfolding place-exponent
 place-exponent-check n checks j h = rw (le-ltb j n h)
 

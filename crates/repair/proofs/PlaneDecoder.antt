@@ -5,14 +5,20 @@ use mathlib.Core.Bool.{Bool, true, false}
 use mathlib.Core.List.{List}
 use Prim.Native.Nat.{ℕ, _+_, _*_, _≤_, _<_}
 use native.Mathlib.Omega.{arith}
-use lib.ListN.{getD}
+use native.Mathlib.Decide.{decLt}
+use lib.ListN.{length, getD, List·getD-eq-default}
 use Rattle.field.specs.Field.{plus}
+use Rattle.field.proofs.Power.{power-lt}
 use Rattle.code.specs.Settings.{Settings, settings, check-count}
 use Rattle.code.specs.Lanes.{lane}
-use Rattle.code.proofs.Lane.{lane-at}
+use Rattle.code.proofs.Lane.{lane-length, lane-at}
+use Rattle.code.proofs.Polynomial.{eval-ext}
+use Rattle.repair.specs.Locator.{massey}
 use Rattle.repair.specs.Errors.{error-sum, wrong-places}
 use Rattle.repair.specs.Rows.{Explained-as}
-use Rattle.repair.specs.Planes.{Locators, Locators-as, Weighted, Counted-as, Decoded-as}
+use Rattle.repair.specs.Search.{Evaluated}
+use Rattle.repair.specs.Planes.{plane-sums, Locators, Locators-as, Longest, Weighted, Counted-as, Decoded-as}
+use Rattle.repair.proofs.Held.{massey-fitting}
 use Rattle.repair.proofs.ErrorSums.{explained-planes, unexplained-plane}
 
 -- locators
@@ -29,6 +35,33 @@ pub not-located :
 unfolding Locators-as Decoded-as settings check-count
 not-located false n t planes sums sizes rows weighted e (p, h, l) = (p, h, λ d. omega (arith, d .short))
 not-located true n t planes sums sizes rows weighted e d = absurd (let z : _≡_ {A = ℕ} 0 1 = cc in omega arith)
+
+-- values by as many coefficients as the longest locator has are those by t + 1: the others are 0
+pub all-evaluated :
+    (most planes count t n : ℕ) (sums sizes rows values : List ℕ) → Locators planes count t sums sizes rows → Longest planes sizes most →
+    Evaluated (most + 1) n count rows values → Evaluated (t + 1) n count rows values
+all-evaluated most planes count t n sums sizes rows values d m e =
+    record { long = e .long; at = λ j p h l. e .at j p h l ∙ eval-ext (lane p (most + 1) rows) (lane p (t + 1) rows) _ (power-lt 2 _) (same p l) }
+  where
+    past : (p i : ℕ) → p < 8 → most < i → Dec (p < planes) → getD rows (8 * i + p) 0 ≡ 0
+    past p i h l (yes a) =
+        d .coefficient p i a
+        ∙ List·getD-eq-default (massey (plane-sums p count sums) count .locator) 0
+        (omega (arith, massey-fitting (plane-sums p count sums) count .locator, d .size p a, m .above p a))
+    past p i h l (no a) = d .others p i (omega arith) h
+
+    same : (p : ℕ) → p < 8 → (i : ℕ) → getD (lane p (most + 1) rows) i 0 ≡ getD (lane p (t + 1) rows) i 0
+    same p h i = go (decLt i (most + 1)) (decLt i (t + 1))
+      where
+        go : Dec (i < most + 1) → Dec (i < t + 1) → getD (lane p (most + 1) rows) i 0 ≡ getD (lane p (t + 1) rows) i 0
+        go (yes a) (yes b) = lane-at p (most + 1) rows i a ∙ sym (lane-at p (t + 1) rows i b)
+        go (yes a) (no b) = absurd (omega (arith, m .least t (d .small)))
+        go (no a) (yes b) =
+            List·getD-eq-default (lane p (most + 1) rows) 0 (omega (arith, lane-length p (most + 1) rows))
+            ∙ sym (lane-at p (t + 1) rows i b ∙ past p i h (omega arith) (decLt p planes))
+        go (no a) (no b) =
+            List·getD-eq-default (lane p (most + 1) rows) 0 (omega (arith, lane-length p (most + 1) rows))
+            ∙ sym (List·getD-eq-default (lane p (t + 1) rows) 0 (omega (arith, lane-length p (t + 1) rows)))
 
 -- errors, counted
 pub record Counted (planes : ℕ) (s : Settings) (sums weighted : List ℕ) : Type 0 where
@@ -54,14 +87,16 @@ pub decoded :
     ((i p : ℕ) → i < check-count s → planes ≤ p → p < 8 → getD sums (8 * i + p) 0 ≡ 0) → Counted planes s sums weighted → Explained-as e s sums weighted →
     Decoded-as e planes s sums weighted
 unfolding Decoded-as
-decoded true planes s sums weighted h z d x = (
-  d .errors,
-  λ p l.
-      record {
-        few = d .few p l;
-        sums = λ i k. ap (λ (a : ℕ). plus a (error-sum s i 0 (lane p (s .n + check-count s) weighted))) (lane-at p (check-count s) sums i k) ∙ explained-planes s sums weighted true x refl p (omega arith) i k;
-      },
-)
+decoded true planes s sums weighted h z d x =
+    record {
+      long = d .errors .long;
+      bytes = d .errors .bytes;
+      each = λ p l.
+          record {
+            few = d .few p l;
+            sums = λ i k. ap (λ (a : ℕ). plus a (error-sum s i 0 (lane p (s .n + check-count s) weighted))) (lane-at p (check-count s) sums i k) ∙ explained-planes s sums weighted true x refl p (omega arith) i k;
+          };
+    }
 decoded false planes s sums weighted h z d x =
     let u = unexplained-plane s sums weighted false x refl planes z (λ j p g l k. d .errors .others j p l k) in (
       u .0,

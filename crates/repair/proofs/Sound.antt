@@ -7,7 +7,7 @@ use mathlib.Core.List.{List, [], _∷_, _++_}
 use Prim.Native.Nat.{ℕ, zero, suc, _+_, _-_, _<_}
 use native.Mathlib.Omega.{arith}
 use lib.Dec.{eqb}
-use lib.ListN.{length, getD, take, drop, length-drop, take-append-drop}
+use lib.ListN.{length, take, drop, length-drop, take-append-drop}
 use lib.Seq.{length-take-le}
 use Rattle.field.specs.Field.{plus, times, inverse}
 use Rattle.field.proofs.Times.{times-lt}
@@ -19,7 +19,7 @@ use Rattle.code.proofs.Bytes.{Bytes}
 use Rattle.code.proofs.PowerSum.{power-sum}
 use Rattle.code.proofs.Word.{sizes, Shape, word-back, word-errors, word-errors-sum}
 use Rattle.repair.specs.Locator.{against, quotient, value}
-use Rattle.repair.specs.Errors.{exponent, wrong-places, Located, Explained}
+use Rattle.repair.specs.Errors.{exponent, wrong-places, Explained}
 use Rattle.repair.proofs.Linear.{plus-again, syndrome-lt}
 use Rattle.repair.proofs.Places.{exponent-column, exponent-check, placed, placed-sum, placed-append}
 use Rattle.repair.proofs.Totals.{wrong-places-append}
@@ -91,11 +91,7 @@ module _ (s : Settings) (bs cs ys : List ℕ) (S : ℕ → ℕ) (r : settings-re
             );
       }
 
--- weighted errors that the locator tells are bytes
-pub bytes-each : (ys : List ℕ) → ((j : ℕ) → j < length ys → getD ys j 0 < 256) → Bytes ys
-bytes-each [] h = tt
-bytes-each (y ∷ ys) h = (h 0 (omega arith), bytes-each ys (λ j l. h (suc j) (omega arith)))
-
+-- what the locator tells is a byte
 pub value-lt : (S : ℕ → ℕ) (ps : List ℕ) (x : ℕ) → value S ps x < 256
 unfolding value
 value-lt S ps x = go (eqb (eval ps x) 0)
@@ -103,6 +99,3 @@ value-lt S ps x = go (eqb (eval ps x) 0)
     go : (t : Bool) → cond t (times (against (quotient x ps) S 0) (inverse (eval (quotient x ps) x))) 0 < 256
     go true = times-lt _ _
     go false = omega arith
-
-pub located-bytes : (s : Settings) (S : ℕ → ℕ) (ys : List ℕ) → Located s S ys → Bytes ys
-located-bytes s S ys l = bytes-each ys (λ j h. rw (l .each j (omega arith)) (value-lt S _ _))

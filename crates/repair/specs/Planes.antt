@@ -27,6 +27,11 @@ unfoldable pub Locators-as : (found : Bool) → (planes count t : ℕ) → (sums
 Locators-as true planes count t sums sizes rows = Locators planes count t sums sizes rows
 Locators-as false planes count t sums sizes rows = (p : ℕ) × (p < planes) × (t < massey (plane-sums p count sums) count .size)
 
+-- the least number that none of the first sizes is above
+pub record Longest (many : ℕ) (sizes : List ℕ) (most : ℕ) : Type 0 where
+  pub above : (p : ℕ) → p < many → getD sizes p 0 ≤ most
+  pub least : (k : ℕ) → ((p : ℕ) → p < many → getD sizes p 0 ≤ k) → most ≤ k
+
 -- the weighted errors of the first planes at all places, and zeros for the other planes
 pub record Weighted (planes : ℕ) (s : Settings) (sums weighted : List ℕ) : Type 0 where
   pub long : length weighted ≡ 416
@@ -46,9 +51,13 @@ pub record Decodes (s : Settings) (S : ℕ → ℕ) : Type 0 where
   pub short : massey S (check-count s) .size ≤ s .t
   pub explained : (weighted : List ℕ) → Located s S weighted → Explained s S weighted
 
+-- weighted errors that explain the power sums of the first planes
+pub record Explains (planes : ℕ) (s : Settings) (sums weighted : List ℕ) : Type 0 where
+  pub long : length weighted ≡ 416
+  pub bytes : (i : ℕ) → getD weighted i 0 < 256
+  pub each : (p : ℕ) → p < planes → Explained s (plane-sums p (check-count s) sums) (lane p (s .n + check-count s) weighted)
+
 -- errors that explain every plane's sums, or a plane that does not decode
 unfoldable pub Decoded-as : (found : Bool) → (planes : ℕ) → Settings → (sums weighted : List ℕ) → Type 0
-Decoded-as true planes s sums weighted =
-    Weighted planes s sums weighted
-    × ((p : ℕ) → p < planes → Explained s (plane-sums p (check-count s) sums) (lane p (s .n + check-count s) weighted))
+Decoded-as true planes s sums weighted = Explains planes s sums weighted
 Decoded-as false planes s sums weighted = (p : ℕ) × (p < planes) × (Decodes s (plane-sums p (check-count s) sums) → ⊥)

@@ -2,6 +2,7 @@
 mod locator;
 mod planes;
 mod search;
+mod single;
 mod sums;
 
 ghost use mathlib.Core.Path.{_≡_};

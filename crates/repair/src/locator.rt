@@ -5,7 +5,7 @@ ghost use mathlib.Core.Path.{_≡_};
 ghost use Prim.Native.Nat.{_+_, _*_, _<_, _≤_};
 ghost use lib.ListN.{length, getD, take};
 ghost use Rattle.field.specs.Table.{Powers, Logarithms};
-ghost use Rattle.code.specs.Polynomial.{eval, added, «scaled»};
+ghost use Rattle.code.specs.Polynomial.{added, «scaled»};
 ghost use Rattle.repair.specs.Locator.{against, «raised», value, massey, longer, «as-long»};
 ghost use Rattle.repair.specs.Held.{Holds, Stands, Carries};
 
@@ -39,23 +39,6 @@ fn discrepancy(
         );
     }
     sum
-}
-
-// The polynomial at x.
-pub fn evaluate(powers: &[u8; 255], logarithms: &[u8; 256], polynomial: &[u8], x: u8) -> u8
-    requires { ⌜ Powers (now powers) × Logarithms (now logarithms) ⌝ }
-    ensures { λ r. ⌜ r ≡ eval (now (polynomial .entry)) x ⌝ }
-{
-    let mut result: u8 = 0;
-    let mut m = polynomial.len();
-    while 0 < m {
-        m -= 1;
-        result = field::sum(
-            polynomial[m],
-            field::product_by(powers, logarithms, x, result),
-        );
-    }
-    result
 }
 
 // The weighted error at the place x, 0 where x is no root. One loop gives the locator's value at x, and its quotient's value and

@@ -1,17 +1,19 @@
 // The decoder of all planes: the locator of each, the errors at all places, and the test that they explain the power sums.
 ghost use mathlib.Core.Path.{_≡_};
+ghost use mathlib.Core.Bool.{true};
 ghost use Prim.Native.Nat.{ℕ, _+_, _*_, _≤_, _<_};
 ghost use lib.ListN.{length, getD};
 ghost use Rattle.field.specs.Table.{Powers, Logarithms};
 ghost use Rattle.code.specs.Array.{Filled};
 ghost use Rattle.code.specs.Settings.{settings};
 ghost use Rattle.repair.specs.Search.{Lane-written, Evaluated};
-ghost use Rattle.repair.specs.Planes.{Locators-as, Locators as «Locators-of», Counted-as, Decoded-as};
+ghost use Rattle.repair.specs.Planes.{Locators-as, Locators as «Locators-of», Longest, Counted-as, Explains, Decoded-as};
 use crate::locator::locate;
 use crate::search::count_wrong;
 use crate::search::evaluate_all;
 use crate::search::place_powers;
 use crate::search::weighted_errors;
+use crate::single::single_place;
 use crate::sums::residual;
 
 // The locators of all planes: their sizes, and their coefficients in rows; or one is too long.
@@ -92,6 +94,23 @@ fn locate_all(
     }
 }
 
+// The largest of the first sizes.
+fn longest(sizes: [usize; 8], many: usize) -> usize
+    requires { ⌜ (many ≤ 8) × (length sizes ≡ 8) ⌝ }
+    ensures { λ r. ⌜ Longest many sizes r ⌝ }
+{
+    let mut most = 0;
+    let mut p = 0;
+    while p < many {
+        let size = sizes[p];
+        if most < size {
+            most = size;
+        }
+        p += 1;
+    }
+    most
+}
+
 // Each plane's errors at all places by its locator, at most t of them not 0; or some plane has more.
 fn errors_at_places(
     powers: &[u8; 255],
@@ -128,7 +147,7 @@ fn errors_at_places(
             p,
             &mut weighted,
         );
-        if t < count_wrong(&weighted, p, many) {
+        if t + 1 <= count_wrong(&weighted, p, many) {
             return Errors {
                 found: false,
                 weighted: weighted,
@@ -142,8 +161,8 @@ fn errors_at_places(
     }
 }
 
-// The errors of all planes that explain their power sums; or some plane has no codeword near.
-pub fn decode(
+// The errors of all planes by their locators; or some plane has no codeword near.
+fn search_errors(
     powers: &[u8; 255],
     logarithms: &[u8; 256],
     sums: &[u8],
@@ -166,7 +185,8 @@ pub fn decode(
     }
     let rows = located.rows;
     let sizes = located.sizes;
-    let values = evaluate_all(powers, &rows, t + 1, n, count);
+    let most = longest(sizes, size);
+    let values = evaluate_all(powers, &rows, most + 1, n, count);
     let errors = errors_at_places(powers, logarithms, sums, sizes, &rows, &values, n, t, size);
     if !errors.found {
         return errors;
@@ -177,4 +197,58 @@ pub fn decode(
         found: explained,
         weighted: weighted,
     }
+}
+
+// One error or none in each plane that explains its power sums; or some plane has more.
+fn single_errors(
+    powers: &[u8; 255],
+    logarithms: &[u8; 256],
+    sums: &[u8],
+    n: usize,
+    t: usize,
+    size: usize,
+) -> Errors
+    requires { ⌜ Powers (now powers) × Logarithms (now logarithms) ⌝ }
+    requires { ⌜ (1 ≤ n) × (n ≤ 32) × (1 ≤ t) × (t ≤ 10) × (size ≤ 8) × (length (now sums) ≡ 160) ⌝ }
+    ensures { λ r. ⌜ (r .found ≡ true → Explains size (settings n t size) (now (sums .entry)) (r .weighted)) ⌝ }
+{
+    let count = 2 * t;
+    let mut weighted = [0u8; 416];
+    let mut p = 0;
+    while p < size {
+        let place = single_place(powers, logarithms, sums, p, n, count);
+        if n + count <= place {
+            return Errors {
+                found: false,
+                weighted: weighted,
+            };
+        }
+        weighted[8 * place + p] = sums[p];
+        p += 1;
+    }
+    Errors {
+        found: true,
+        weighted: weighted,
+    }
+}
+
+// The errors of all planes that explain their power sums; or some plane has no codeword near. One error in a plane needs no search.
+pub fn decode(
+    powers: &[u8; 255],
+    logarithms: &[u8; 256],
+    sums: &[u8],
+    n: usize,
+    t: usize,
+    size: usize,
+) -> Errors
+    requires { ⌜ Powers (now powers) × Logarithms (now logarithms) ⌝ }
+    requires { ⌜ (1 ≤ n) × (n ≤ 32) × (1 ≤ t) × (t ≤ 10) × (size ≤ 8) × (length (now sums) ≡ 160) ⌝ }
+    requires { ⌜ ((i p : ℕ) → i < 2 * t → size ≤ p → p < 8 → getD (now sums) (8 * i + p) 0 ≡ 0) ⌝ }
+    ensures { λ r. ⌜ Decoded-as (r .found) size (settings n t size) (now (sums .entry)) (r .weighted) ⌝ }
+{
+    let single = single_errors(powers, logarithms, sums, n, t, size);
+    if single.found {
+        return single;
+    }
+    search_errors(powers, logarithms, sums, n, t, size)
 }

@@ -14,7 +14,7 @@ ghost use Rattle.code.specs.Entry.{in-front};
 ghost use Rattle.repair.specs.Locator.{value};
 ghost use Rattle.repair.specs.Errors.{wrong-places};
 ghost use Rattle.repair.specs.Difference.{plus-values};
-ghost use Rattle.repair.specs.Search.{Place-powers, Evaluated, Lane-written, column-errors};
+ghost use Rattle.repair.specs.Search.{Place-powers, Evaluated, Listed, Lane-written, column-errors};
 use crate::locator::error_at;
 use crate::sums::progression;
 
@@ -60,6 +60,30 @@ pub fn evaluate_all(
     rows
 }
 
+// Places at which a plane's value is 0: so many, from the start of the list on.
+pub struct RootPlaces {
+    pub many: usize,
+    pub at: [usize; 52],
+}
+
+// Lists the places at which plane p is 0. A place is written before it is known to be one, so that no step waits for the test.
+fn root_places(values: &[u8], p: usize, places: usize) -> RootPlaces
+    requires { ⌜ (p < 8) × (places ≤ 52) × (8 * places ≤ length (now values)) ⌝ }
+    ensures { λ r. ⌜ Listed places (λ j. getD (now (values .entry)) (8 * j + p) 0) (r .many) (r .at) ⌝ }
+{
+    let mut at = [0usize; 52];
+    let mut many = 0;
+    let mut j = 0;
+    while j < places {
+        at[many] = j;
+        if values[8 * j + p] == 0 {
+            many += 1;
+        }
+        j += 1;
+    }
+    RootPlaces { many: many, at: at }
+}
+
 // The weighted errors of plane p: at a root of its locator what the locator tells, at any other place 0.
 pub fn weighted_errors(
     powers: &[u8; 255],
@@ -75,17 +99,17 @@ pub fn weighted_errors(
     requires { ⌜ (length (now locator) ≤ length (now sums)) × (p < 8) × (length (now places) ≤ 52) ⌝ }
     requires { ⌜ (8 * length (now places) ≤ length (now values)) × (8 * length (now places) ≤ length (now weighted)) ⌝ }
     requires { ⌜ ((j : ℕ) → j < length (now places) → getD (now values) (8 * j + p) 0 ≡ eval (now locator) (getD (now places) j 0)) ⌝ }
+    requires { ⌜ ((j : ℕ) → j < length (now places) → getD (now weighted) (8 * j + p) 0 ≡ 0) ⌝ }
     ensures { λ _. ⌜ Lane-written p (length (now (places .entry))) (λ j. value (λ i. getD (now (sums .entry)) i 0) (now (locator .entry)) (getD (now (places .entry)) j 0)) (now (weighted .entry)) (now (weighted .exit)) ⌝ }
 {
-    let mut j = 0;
-    while j < places.len() {
-        let at = 8 * j + p;
-        let mut error: u8 = 0;
-        if values[at] == 0 {
-            error = error_at(powers, logarithms, locator, sums, places[j]);
-        }
-        weighted[at] = error;
-        j += 1;
+    let roots = root_places(values, p, places.len());
+    let many = roots.many;
+    let at = roots.at;
+    let mut i = 0;
+    while i < many {
+        let j = at[i];
+        weighted[8 * j + p] = error_at(powers, logarithms, locator, sums, places[j]);
+        i += 1;
     }
 }
 

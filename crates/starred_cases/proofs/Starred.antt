@@ -1,9 +1,12 @@
 -- Every starred case holds: antt works each of them out. Assumes nothing.
 use mathlib.Core.Path.{_≡_, refl, _∙_, ap₂}
-use mathlib.Core.Bool.{true}
+use mathlib.Core.Bool.{true, false}
 use mathlib.Core.List.{List, [], _∷_}
-use Prim.Native.Nat.{ℕ, _≤_}
+use Prim.Native.Nat.{ℕ, _+_, _*_, _≤_}
 use native.Mathlib.Omega.{arith}
+use lib.Dec.{ltb}
+use lib.IntN.{ℤ}
+use lib.ListN.{length}
 use Rattle.field.specs.Field.{plus, xor-from, doubled, times, times-from}
 use Rattle.field.proofs.Power.{doublings, power-doublings}
 use Rattle.code.specs.Settings.{settings, settings-refusal, check-count, value-size}
@@ -13,10 +16,13 @@ use Rattle.code.specs.Vector.{plane, each-long, is-vector, are-checks, same, di
 use Rattle.code.specs.Promise.{Repairs}
 use Rattle.code.proofs.Quick.{quick-summed, quick-zero-from, quick-word, quick-planes-from, quick-checks, checks-quick}
 use Rattle.code.proofs.Vector.{repairs}
-use Rattle.column.specs.Promise.{holds}
-use Rattle.column.proofs.Cases.{three-refused, four-opens, alone-holds}
+use Rattle.gradecast.specs.Promise.{holds}
+use Rattle.gradecast.proofs.Cases.{three-refused, four-opens, alone-holds}
 use Rattle.column.specs.Value.{is-blank}
-use Rattle.starred_cases.specs.Cases.{product, generator-is, checks-are, repaired-is, opening, alone-ends, Starred-cases, starred, All-hold, Holds, single}
+use Rattle.column.specs.Record.{Held, held-as}
+use Rattle.column.proofs.Lines.{first-of-later}
+use Rattle.level.specs.Level.{bits, signed, height, confident, placed, ascending, dropped, needed, without-ends, left, halved, middle, level-of, level-refusal}
+use Rattle.starred_cases.specs.Cases.{product, generator-is, checks-are, repaired-is, opening, alone-ends, level-is, Starred-cases, starred, All-hold, Holds, single, held-bytes, held-blank}
 use Rattle.starred_cases.proofs.NoneNear.{none-near-case}
 
 -- the first two roots, by doublings, and the generator by them
@@ -66,9 +72,20 @@ alone-case : Holds (alone-ends (7 ∷ []) 2)
 unfolding Holds holds
 alone-case run calls last small runs e = alone-holds run calls last small runs e
 
+-- the heights held, in ascending order, give the level
+level-case :
+    (n t : ℕ) (held : List Held) (hs : List ℤ) (l : ℤ) → confident held ≡ hs → ltb (length hs) (2 * t + 1) ≡ false →
+    middle (without-ends t (ascending hs)) ≡ l → Holds (level-is n t held hs l)
+unfolding Holds level-refusal level-of left needed dropped settings
+level-case n t held hs l heights many level = (
+  heights,
+  λ r s h. (λ asked. first-of-later asked (first-of-later (rw s refl) (rw (s, h, heights, many) refl)), rw (s, h, heights) level),
+)
+
 pub starred-cases : Starred-cases
 unfolding Starred-cases starred All-hold single times times-from doubled plus xor-from doublings settings check-count value-size quick-checks quick-planes-from
     quick-word quick-zero-from quick-summed are-checks each-long byte-list plane settings-refusal is-vector same differ-values
+    held-bytes held-blank held-as bits signed height confident placed ascending without-ends halved middle
 starred-cases = (
   product-case _ _ _ refl,
   (
@@ -79,7 +96,7 @@ starred-cases = (
         checks-case _ _ _ _ refl,
         (
           checks-case _ _ _ _ refl,
-          (repaired-case _ _ _ _ _ refl refl refl refl (omega arith), (repaired-case _ _ _ _ _ refl refl refl refl (omega arith), (none-near-case, (opens-case, (refused-case, (alone-case, tt)))))),
+          (repaired-case _ _ _ _ _ refl refl refl refl (omega arith), (repaired-case _ _ _ _ _ refl refl refl refl (omega arith), (none-near-case, (opens-case, (refused-case, (alone-case, (level-case _ _ _ _ _ refl refl refl, (level-case _ _ _ _ _ refl refl refl, tt)))))))),
         ),
       ),
     ),

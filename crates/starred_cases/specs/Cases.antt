@@ -3,21 +3,30 @@ use mathlib.Core.Path.{_≡_}
 use mathlib.Core.Bool.{true}
 use mathlib.Core.List.{List, [], _∷_}
 use Prim.Native.Nat.{ℕ, _<_}
+use lib.IntN.{ℤ, pos, negsuc}
 use lib.ListN.{length, getD}
 use Rattle.field.specs.Field.{times}
 use Rattle.code.specs.Settings.{settings}
 use Rattle.code.specs.Polynomial.{generator}
 use Rattle.code.specs.Vector.{has-checks}
 use Rattle.code.specs.Repair.{Repaired, No-repair}
-use Rattle.column.specs.Record.{Rec, held-as, opened}
-use Rattle.column.specs.Refusal.{open-refusal}
+use Rattle.column.specs.Record.{Rec, Held, held-as, opened}
+use Rattle.column.specs.Refusal.{open-refusal, ask-refusal}
 use Rattle.column.specs.Call.{Call, Run}
-use Rattle.column.specs.Promise.{none-held}
+use Rattle.gradecast.specs.Promise.{none-held}
+use Rattle.level.specs.Level.{confident, level-of, level-refusal}
 
 -- values of one byte
 unfoldable pub single : List ℕ → List (List ℕ)
 single [] = []
 single (b ∷ bs) = (b ∷ []) ∷ single bs
+
+-- four bytes held at confidence 2, and a blank at confidence 0
+unfoldable pub held-bytes : (a b c d : ℕ) → Held
+held-bytes a b c d = held-as (a ∷ b ∷ c ∷ d ∷ []) 2
+
+unfoldable pub held-blank : Held
+held-blank = held-as (0 ∷ 0 ∷ 0 ∷ 0 ∷ []) 0
 
 -- a kind of case for each thing that is worked out
 pub data Case : Type 0 where
@@ -28,6 +37,7 @@ pub data Case : Type 0 where
   none-near : (n t : ℕ) → (vector checks : List ℕ) → Case
   opening : (n t number : ℕ) → (own : List ℕ) → (answer : ℕ) → Case
   alone-ends : (own : List ℕ) → (confidence : ℕ) → Case
+  level-is : (n t : ℕ) → (held : List Held) → (heights : List ℤ) → (level : ℤ) → Case
 
 unfoldable pub Holds : Case → Type 0
 Holds (product a b c) = times a b ≡ c
@@ -39,6 +49,9 @@ Holds (opening n t k v a) = open-refusal (settings n t (length v)) k v ≡ a
 Holds (alone-ends v c) =
     (run : ℕ) (calls : List Call) (last : Rec) → run < 65536 → Run (opened (settings 1 0 (length v)) 1 run v) calls last → last .round ≡ 4 →
     getD (last .held) 0 none-held ≡ held-as v c
+Holds (level-is n t held hs l) =
+    (confident held ≡ hs)
+    × ((r : Rec) → r .settings ≡ settings n t 4 → r .held ≡ held → (ask-refusal r ≡ 0 → level-refusal r ≡ 0) × (level-of r ≡ l))
 
 unfoldable pub starred : List Case
 starred =
@@ -53,6 +66,8 @@ starred =
     ∷ opening 4 1 1 (7 ∷ []) 0
     ∷ opening 3 1 1 (7 ∷ []) 2
     ∷ alone-ends (7 ∷ []) 2
+    ∷ level-is 4 1 (held-bytes 0 0 3 232 ∷ held-bytes 0 0 3 236 ∷ held-bytes 0 0 3 242 ∷ held-blank ∷ []) (pos 1000 ∷ pos 1004 ∷ pos 1010 ∷ []) (pos 1004)
+    ∷ level-is 2 0 (held-bytes 255 255 255 251 ∷ held-bytes 255 255 255 254 ∷ []) (negsuc 4 ∷ negsuc 1 ∷ []) (negsuc 3)
     ∷ []
 
 unfoldable pub All-hold : List Case → Type 0

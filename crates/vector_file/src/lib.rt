@@ -84,7 +84,8 @@ fn pair(high: u8, low: u8) -> u32 {
     wide(high) << 8 | wide(low)
 }
 
-fn number(a: u8, b: u8, c: u8, d: u8) -> u32 {
+// Four bytes as a number, the high byte first.
+pub fn number(a: u8, b: u8, c: u8, d: u8) -> u32 {
     pair(a, b) << 16 | pair(c, d)
 }
 

@@ -1,38 +1,48 @@
--- `take` meets its contract: a refusal before the frame is looked at leaves the record, one of the frame counts, and a frame that is
--- not refused is kept. Assumes nothing.
+-- `take` meets its contract: a refusal leaves the record that `refused` gives, whichever line it comes from, and a frame that is not
+-- refused is kept. Assumes nothing.
 use mathlib.Core.Path.{_≡_, refl, sym, _∙_, ap}
-use mathlib.Core.Bool.{Bool, true}
-use mathlib.Core.List.{[]}
-use Prim.Native.Nat.{_≤_}
+use mathlib.Core.Bool.{Bool}
+use mathlib.Core.List.{List, []}
+use Prim.Native.Nat.{ℕ, _≤_}
 use native.Mathlib.Omega.{arith}
 use borrow.Author.Needs.{needs}
 use Rattle.code.specs.Settings.{settings}
 use Rattle.code.proofs.Word.{sizes}
-use Rattle.column.specs.Refusal.{first-of, slot-refusal, frame-refusal, take-refusal, close-refusal, counts-up}
+use Rattle.column.specs.Refusal.{first-of, slot-refusal, frame-refusal, take-refusal, close-refusal}
 use Rattle.column.specs.View.{settings-of, view}
+use Rattle.column.specs.Entry.{Take-says, after-refusal}
+use Rattle.column.specs.declared.record.Column.{Column}
 use Rattle.column.proofs.Refusal.{first-of-zero, first-of-next, slot-inside, close-settings}
 use Rattle.column.proofs.Frame.{after-take-taken}
-use Rattle.column.proofs.View.{slot-taken, view-refused}
-use Rattle.column.proofs.Lines.{first-of-here, take-lines, early-le, frame-counts, after-take-early, after-take-counted, after-refusal-early, after-refusal-counted}
+use Rattle.column.proofs.View.{slot-taken}
+use Rattle.column.proofs.Lines.{first-of-here, take-lines, after-refused}
 use Rattle.column.proofs.take.Statement.{statement}
 use Rattle.column.proofs.take.Tie as tie
+
+-- a refusal, whichever line gave it
+refusal-says :
+    (c : Column) (slot : ℕ) (frame : List ℕ) {a x : ℕ} {d : Column} → a ≡ take-refusal (view c) slot frame → (a ≡ 0 → ⊥) → (x ≡ a) × (d ≡ after-refusal a c) →
+    Take-says c slot frame x d
+refusal-says c slot frame e h r =
+    record {
+      answered = r .0 ∙ e;
+      done = ap view (r .1) ∙ after-refused c slot _ frame e h;
+      refused = λ z. r .1 ∙ ap (λ (n : ℕ). after-refusal n c) (sym (r .0));
+    }
 
 slot-refusal-requires : tie.Need-slot-refusal-requires
 slot-refusal-requires c κs = search needs
 
+refused-requires : tie.Need-refused-requires
+refused-requires c κs = search needs
+
 returns : tie.Need-returns
 unfolding view
 returns c =
-    let a = c .before .before .before .args in
-    let r = view (a .t1) in
-    let early = c .before .slot-refusal .ensures in
-    let answered = sym (take-lines r (a .slot) (a .frame .now) ∙ first-of-here _ (sym early) (c .if1 .taken)) in
-    let low : c .before .slot-refusal .result ≤ 8 = omega (arith, early, early-le r (a .slot)) in
-    record {
-      answered = answered;
-      done = sym (after-take-early r (a .slot) (a .frame .now) (λ z. c .if1 .taken (answered ∙ z)) (omega (arith, answered, low)));
-      refused = λ z. sym (after-refusal-early _ (a .t1) low);
-    }
+    let a = c .before .before .before .before .args in
+    let early = c .before .before .slot-refusal .ensures in
+    refusal-says (a .t1) (a .slot) (a .frame .now) (sym (take-lines (view (a .t1)) (a .slot) (a .frame .now) ∙ first-of-here _ (sym early) (c .before .if1 .taken))) (c .before .if1 .taken)
+    (c .refused .ensures)
 
 -- past the lines before the frame's own
 record Passed (c : tie.Else1) : Type 0 where
@@ -81,48 +91,38 @@ frame-answer c =
     ∙ ap (λ (b : Bool). frame-refusal (settings-of (a .t1)) (a .t1 .run) (a .t1 .round) (a .slot) b (a .frame .now))
     (slot-taken (a .t1) (a .slot) (record { taken = 0; bytes = [] }) refl (h .low) (h .high)))
 
-frame-answer-counts : (c : tie.After-frame-refusal) → (c .frame-refusal .result ≡ 0 → ⊥) → counts-up (c .frame-refusal .result) ≡ true
-frame-answer-counts c h =
-    let e = c .frame-refusal .ensures (c .before .before .before .before .before .args .t1 .n) in
-    ap counts-up e ∙ frame-counts _ _ _ _ _ _ (λ z. h (e ∙ z))
-
-counted-requires : tie.Need-counted-requires
-counted-requires c κs = search needs
+refused-requires-2 : tie.Need-refused-requires-2
+refused-requires-2 c κs = search needs
 
 returns-2 : tie.Need-returns-2
 returns-2 c =
     let a = c .before .before .before .before .before .before .before .args in
-    let r = view (a .t1) in
-    let answered = frame-answer (c .before .before) in
-    let counts : counts-up (c .before .before .frame-refusal .result) ≡ true = frame-answer-counts (c .before .before) (c .before .if2 .taken) in
-    record {
-      answered = answered;
-      done =
-          ap view (c .counted .ensures) ∙ view-refused (a .t1) (a .slot)
-          ∙ sym (after-take-counted r (a .slot) (a .frame .now) (λ z. c .before .if2 .taken (answered ∙ z)) (ap counts-up (sym answered) ∙ counts));
-      refused = λ z. c .counted .ensures ∙ sym (after-refusal-counted _ (a .t1) counts);
-    }
+    refusal-says (a .t1) (a .slot) (a .frame .now) (frame-answer (c .before .before)) (λ z. absurd (omega (arith, z, c .before .if2 .taken))) (c .refused2 .ensures)
+
+nothing-refused : (c : tie.Else2) → c .before .frame-refusal .result ≡ 0
+nothing-refused c = omega (arith, c .if2 .left)
 
 keep-requires : tie.Need-keep-requires
-keep-requires c κs = sym (frame-answer (c .before)) ∙ c .if2 .left
+keep-requires c κs = sym (frame-answer (c .before)) ∙ nothing-refused c
 
 returns-3 : tie.Need-returns-3
 returns-3 c =
-    let e = sym (frame-answer (c .before .before)) ∙ c .before .if2 .left in
-    record { answered = sym e; done = c .keep .ensures ∙ sym (after-take-taken _ _ _ e); refused = λ z. absurd (z refl) }
+    let e = frame-answer (c .before .before) in
+    record { answered = e; done = c .keep .ensures ∙ sym (after-take-taken _ _ _ (sym e ∙ nothing-refused (c .before))); refused = λ z. absurd (z (nothing-refused (c .before))) }
 
 pub take-spec : {M : Type 1} → statement M
 take-spec =
     tie.close
     (tie.spec
     slot-refusal-requires
+    refused-requires
     returns
     sub-k
     cast-k
     mul-place
     element-copy-out-place
     frame-refusal-requires
-    counted-requires
+    refused-requires-2
     returns-2
     keep-requires
     returns-3)

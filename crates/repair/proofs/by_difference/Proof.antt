@@ -75,7 +75,7 @@ decode-requires c κs =
     let rows = c .before .before .before .before .before .before .before .before .before .before .before .difference in (
       (c .before .before .before .before .before .before .before .powers .ensures, c .before .before .before .before .before .before .logarithms .ensures),
       (
-        (z .0, some-bad (a .t) (a .w) _ _ (rows .result) _ (c .before .before .before .before .before .before .before .before .before .is-zero .ensures) (c .before .before .before .before .before .before .before .before .if1 .left) (rows .ensures), omega arith, z .2, c .before .before .before .syndromes .ensures .long),
+        (omega arith, z .0, some-bad (a .t) (a .w) _ _ (rows .result) _ (c .before .before .before .before .before .before .before .before .before .is-zero .ensures) (c .before .before .before .before .before .before .before .before .if1 .left) (rows .ensures), omega arith, z .2, c .before .before .before .syndromes .ensures .long),
         sums-spare (a .n) (a .t) (a .w) (a .vector .now) (a .own .now) (a .checks .now) (rows .result) (s .pre .0) own-bytes check-bytes (s .pre .1 .1) (s .pre .1 .2) (rows .ensures) (c .before .before .before .syndromes .result) (c .before .before .before .syndromes .ensures) (z .2),
       ),
     )

@@ -1,9 +1,7 @@
--- `double_row` meets its contract: the byte read is an old one, since the row written lies at the place read or above it. Assumes nothing.
+-- `double_row` meets its contract: the row read lies below the row written. Assumes nothing.
 use mathlib.Core.Path.{_≡_, _∙_, ap}
-use mathlib.Core.List.{List}
-use Prim.Native.Nat.{ℕ, _+_, _*_, _-_, _≤_, _<_}
+use Prim.Native.Nat.{_+_, _*_, _-_, _≤_}
 use native.Mathlib.Omega.{arith}
-use native.Mathlib.Decide.{decLt}
 use lib.ListN.{getD}
 use borrow.Author.Needs.{needs}
 use Rattle.field.specs.Field.{doubled}
@@ -12,19 +10,11 @@ use Rattle.code.proofs.Written.{written-none, written-more, written-to}
 use Rattle.code.proofs.lanes.double_row.Statement.{statement}
 use Rattle.code.proofs.lanes.double_row.Tie as tie
 
-old-source :
-    (j p : ℕ) (f : ℕ → ℕ) (old rows : List ℕ) → Written (16 * j) p f old rows → p < 8 → getD rows (8 * j + p) 0 ≡ getD old (8 * j + p) 0
-old-source j p f old rows w h = go (decLt (8 * j + p) (16 * j))
-  where
-    go : Dec (8 * j + p < 16 * j) → getD rows (8 * j + p) 0 ≡ getD old (8 * j + p) 0
-    go (yes l) = w .before _ l
-    go (no l) = w .after _ (omega arith)
-
 abbrev Inv-loop : tie.InvT-loop
-Inv-loop rows₀ j p₀ rows p = (p ≤ 8) × Written (16 * j) p (λ q. doubled (getD rows₀ (8 * j + q) 0)) rows₀ rows
+Inv-loop rows₀ j to p₀ rows p = (p ≤ 8) × Written (8 * to) p (λ q. doubled (getD rows₀ (8 * j + q) 0)) rows₀ rows
 
 abbrev μ-loop : tie.MeasureT-loop
-μ-loop rows₀ j p₀ rows p = 8 - p
+μ-loop rows₀ j to p₀ rows p = 8 - p
 
 loop-holds : tie.Need-loop-holds Inv-loop μ-loop
 loop-holds c = (omega arith, written-none _ _ _)
@@ -58,11 +48,8 @@ loop-less c = omega arith
 
 loop-again : tie.Need-loop-again Inv-loop μ-loop
 loop-again c =
-    let d = c .before .before .before in (
-      omega arith,
-      written-more _ _ _ _ _ _ (d .loop .inv .1) (omega arith)
-          (c .double .ensures ∙ ap doubled (old-source _ _ _ _ _ (d .loop .inv .1) (c .before .before .loop-test .taken))),
-    )
+    let w = c .before .before .before .loop .inv .1 in
+    (omega arith, written-more _ _ _ _ _ _ w (omega arith) (c .double .ensures ∙ ap doubled (w .before _ (omega arith))))
 
 returns : tie.Need-returns Inv-loop μ-loop
 returns c = written-to (let e : c .before .loop .p ≡ 8 = omega arith in e) (c .before .loop .inv .1)

@@ -1,5 +1,5 @@
--- `copy_value` meets its contract. Assumes nothing.
-use mathlib.Core.Path.{_≡_, refl}
+-- `copy_value` meets its contract: eight bytes at once, or byte by byte. Assumes nothing.
+use mathlib.Core.Path.{_≡_, refl, sym}
 use Prim.Native.Nat.{_+_, _-_, _≤_}
 use native.Mathlib.Omega.{arith}
 use lib.ListN.{getD}
@@ -13,6 +13,15 @@ Inv-loop to₀ at from start size p₀ to p = (p ≤ size) × Written at p (λ q
 
 abbrev μ-loop : tie.MeasureT-loop
 μ-loop to₀ at from start size p₀ to p = size - p
+
+copy-row-requires : tie.Need-copy-row-requires Inv-loop μ-loop
+copy-row-requires c κs = omega arith
+
+same-length : tie.Need-same-length Inv-loop μ-loop
+same-length c = c .before .before .copy-row .ensures .long
+
+returns : tie.Need-returns Inv-loop μ-loop
+returns c = written-to (let e : 8 ≡ _ = omega arith in e) (c .before .before .copy-row .ensures)
 
 loop-holds : tie.Need-loop-holds Inv-loop μ-loop
 loop-holds c = (omega arith, written-none _ _ _)
@@ -38,11 +47,11 @@ loop-less c = omega arith
 loop-again : tie.Need-loop-again Inv-loop μ-loop
 loop-again c = (omega arith, written-more _ _ _ _ _ _ (c .before .before .loop .inv .1) (omega arith) refl)
 
-same-length : tie.Need-same-length Inv-loop μ-loop
-same-length c = c .before .loop .inv .1 .long
+same-length-2 : tie.Need-same-length-2 Inv-loop μ-loop
+same-length-2 c = c .before .loop .inv .1 .long
 
-returns : tie.Need-returns Inv-loop μ-loop
-returns c = written-to (let e : c .before .loop .p ≡ _ = omega arith in e) (c .before .loop .inv .1)
+returns-2 : tie.Need-returns-2 Inv-loop μ-loop
+returns-2 c = written-to (let e : c .before .loop .p ≡ _ = omega arith in e) (c .before .loop .inv .1)
 
 pub copy-value-spec : {M : Type 1} → statement M
 copy-value-spec =
@@ -50,6 +59,9 @@ copy-value-spec =
     (tie.spec
     Inv-loop
     μ-loop
+    copy-row-requires
+    same-length
+    returns
     loop-holds
     add-to
     shared-slice-read-to
@@ -58,5 +70,5 @@ copy-value-spec =
     add-p
     loop-less
     loop-again
-    same-length
-    returns)
+    same-length-2
+    returns-2)

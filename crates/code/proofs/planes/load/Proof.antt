@@ -3,7 +3,7 @@ use mathlib.Core.Path.{_≡_, refl}
 use Prim.Native.Nat.{_-_, _≤_}
 use native.Mathlib.Omega.{arith}
 use Rattle.code.specs.Lanes.{Loaded}
-use Rattle.code.proofs.Cut.{value-fits, values-fit}
+use Rattle.code.proofs.Cut.{values-fit, start-fits, value-ends}
 use Rattle.code.proofs.Loading.{loaded-none, loaded-more, loaded-to}
 use Rattle.code.proofs.planes.load.Statement.{statement}
 use Rattle.code.proofs.planes.load.Tie as tie
@@ -17,27 +17,25 @@ abbrev μ-loop : tie.MeasureT-loop
 loop-holds : tie.Need-loop-holds Inv-loop μ-loop
 loop-holds c = (omega arith, loaded-none _ _ _ _ refl refl)
 
+sub-from : tie.Need-sub-from Inv-loop μ-loop
+sub-from c = omega arith
+
+sub-from-2 : tie.Need-sub-from-2 Inv-loop μ-loop
+sub-from-2 c = omega arith
+
 slice-aggregate-copy-value : tie.Need-slice-aggregate-copy-value Inv-loop μ-loop
 slice-aggregate-copy-value c = omega arith
 
 mul-copy-value : tie.Need-mul-copy-value Inv-loop μ-loop
 mul-copy-value c = omega arith
 
-sub-copy-value : tie.Need-sub-copy-value Inv-loop μ-loop
-sub-copy-value c = omega arith
-
-sub-copy-value-2 : tie.Need-sub-copy-value-2 Inv-loop μ-loop
-sub-copy-value-2 c = omega arith
-
 mul-copy-value-2 : tie.Need-mul-copy-value-2 Inv-loop μ-loop
-mul-copy-value-2 c =
-    let a = c .before .before .before .before .args in
-    omega (arith, value-fits (a .n - 1 - c .before .before .loop .i) (a .n) (a .size) (omega arith), values-fit (a .n) (a .size) (omega arith) (omega arith))
+mul-copy-value-2 c = let a = c .before .before .before .before .args in start-fits _ (a .n) (a .size) (omega arith) (values-fit (a .n) (a .size) (omega arith) (omega arith))
 
 copy-value-requires : tie.Need-copy-value-requires Inv-loop μ-loop
 copy-value-requires c κs =
-    let a = c .before .before .before .before .args in
-    omega (arith, value-fits (a .n - 1 - c .before .before .loop .i) (a .n) (a .size) (omega arith), c .before .before .loop .inv .1 .long)
+    let a = c .before .before .before .before in
+    (omega (arith, c .before .before .loop .inv .1 .long), value-ends _ (a .args .n) (a .args .size) _ (omega arith) (a .pre .2))
 
 add-i : tie.Need-add-i Inv-loop μ-loop
 add-i c = omega arith
@@ -60,10 +58,10 @@ load-spec =
     Inv-loop
     μ-loop
     loop-holds
+    sub-from
+    sub-from-2
     slice-aggregate-copy-value
     mul-copy-value
-    sub-copy-value
-    sub-copy-value-2
     mul-copy-value-2
     copy-value-requires
     add-i

@@ -27,14 +27,14 @@ array-write-product c = omega arith
 loop-holds : tie.Need-loop-holds Inv-loop μ-loop
 loop-holds c = (omega arith, factored-first _ _ (c .before .before .args .fewer .now) _ refl refl (c .product-by .ensures))
 
-sub-sum : tie.Need-sub-sum Inv-loop μ-loop
-sub-sum c = omega arith
+sub-below : tie.Need-sub-below Inv-loop μ-loop
+sub-below c = omega arith
 
-element-copy-out-sum : tie.Need-element-copy-out-sum Inv-loop μ-loop
-element-copy-out-sum c = omega arith
+element-copy-out-below : tie.Need-element-copy-out-below Inv-loop μ-loop
+element-copy-out-below c = omega arith
 
-element-copy-out-product-by-2 : tie.Need-element-copy-out-product-by-2 Inv-loop μ-loop
-element-copy-out-product-by-2 c = omega arith
+element-copy-out-here : tie.Need-element-copy-out-here Inv-loop μ-loop
+element-copy-out-here c = omega arith
 
 product-by-requires-2 : tie.Need-product-by-requires-2 Inv-loop μ-loop
 product-by-requires-2 c κs = search needs
@@ -71,9 +71,9 @@ times-factor-spec =
     product-by-requires
     array-write-product
     loop-holds
-    sub-sum
-    element-copy-out-sum
-    element-copy-out-product-by-2
+    sub-below
+    element-copy-out-below
+    element-copy-out-here
     product-by-requires-2
     sum-requires
     array-write-product-2

@@ -54,11 +54,11 @@ sized :
     eqb (length (c .before .before .before .before .before .before .before .args .frame .now)) (frame-size (settings n (c .before .before .before .before .before .before .before .args .t) (c .before .before .before .before .before .before .before .args .w)) (round-in (c .before .before .before .before .before .before .before .args .frame .now))) ≡ true
 sized c n = eq-eqb _ _ (c .if3 .left ∙ c .before .frame-size .ensures .0 n ∙ ap (frame-size _) (round-read (c .before .before)))
 
-shared-slice-read-if4 : tie.Need-shared-slice-read-if4
-shared-slice-read-if4 c = omega arith
+shared-slice-read-sender : tie.Need-shared-slice-read-sender
+shared-slice-read-sender c = omega arith
 
-cast-if4 : tie.Need-cast-if4
-cast-if4 c = omega (arith, c .shared-slice-known3 .given 1)
+cast-sender : tie.Need-cast-sender
+cast-sender c = omega (arith, c .shared-slice-known3 .given 1)
 
 returns-4 : tie.Need-returns-4
 unfolding frame-refusal sender-in
@@ -132,8 +132,8 @@ frame-refusal-spec =
     returns-2
     frame-size-requires
     returns-3
-    shared-slice-read-if4
-    cast-if4
+    shared-slice-read-sender
+    cast-sender
     returns-4
     shared-slice-read-run-number
     shared-slice-read-run-number-2

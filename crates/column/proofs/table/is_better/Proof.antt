@@ -1,8 +1,11 @@
 -- `is_better` meets its contract: the tests of the definition, one after the other. Assumes nothing.
-use mathlib.Core.Path.{sym, _∙_}
+use mathlib.Core.Path.{_≡_, sym, _∙_}
+use mathlib.Core.Bool.{true}
 use native.Mathlib.Omega.{arith}
+use lib.ListN.{take}
 use borrow.Author.Needs.{needs}
 use borrow.Author.Tests.{lt-ltb, le-ltb, eq-eqb, ne-eqb}
+use Rattle.column.specs.Value.{is-blank}
 use Rattle.column.specs.Table.{better-by}
 use Rattle.column.proofs.table.is_better.Statement.{statement}
 use Rattle.column.proofs.table.is_better.Tie as tie
@@ -12,7 +15,10 @@ is-blank-requires c κs = search needs
 
 returns : tie.Need-returns
 unfolding better-by
-returns c = rw (sym (c .before .is-blank .ensures) ∙ c .if1 .taken)
+returns c =
+    let a = c .before .before .before .args in
+    let blank : is-blank (take (a .w) (a .a .value)) ≡ true = sym (c .before .is-blank .ensures) ∙ c .if1 .taken in
+    rw blank
 
 is-blank-requires-2 : tie.Need-is-blank-requires-2
 is-blank-requires-2 c κs = search needs

@@ -23,13 +23,13 @@ returns c =
     let m = c .before .before .most-found in
     let long : length (m .result .value) ≡ 8 = search needs in
     take-replicate {A = ℕ} (c .before .before .before .args .w) 8 0 (omega arith)
-    ∙ sym (agreed-seldom _ _ _ _ _ (m .result) (m .ensures) (omega arith) (c .if1 .taken))
+    ∙ sym (agreed-seldom _ _ _ _ _ (m .result) (m .ensures) (omega arith) (omega (arith, c .if1 .taken)))
 
 returns-2 : tie.Need-returns-2
 returns-2 c =
     let m = c .before .before .before .most-found in
     let long : length (m .result .value) ≡ 8 = search needs in
-    sym (agreed-often _ _ _ _ _ (m .result) (m .ensures) (omega arith) (c .before .if1 .left))
+    sym (agreed-often _ _ _ _ _ (m .result) (m .ensures) (omega arith) (omega (arith, c .before .if1 .left)))
 
 pub agreed-at-spec : {M : Type 1} → statement M
 agreed-at-spec = tie.close (tie.spec most-found-requires sub-if1 returns returns-2)

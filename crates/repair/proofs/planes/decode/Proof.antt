@@ -1,84 +1,20 @@
--- `decode` meets its contract: locators, errors and the residual, each with its own way to fail. Assumes nothing.
-use mathlib.Core.Path.{refl}
-use native.Mathlib.Omega.{arith}
-use borrow.Author.Tests.{not-true, not-false}
-use Rattle.code.specs.Settings.{settings, check-count}
-use Rattle.repair.proofs.PlaneDecoder.{all-located, not-located, all-counted, not-counted, decoded}
+-- `decode` meets its contract: one error in each plane explains the sums, or the search decides. Assumes nothing.
+use Rattle.repair.proofs.OneError.{decoded-single}
 use borrow.Author.Needs.{needs}
 use Rattle.repair.proofs.planes.decode.Statement.{statement}
 use Rattle.repair.proofs.planes.decode.Tie as tie
 
-mul-count : tie.Need-mul-count
-mul-count c = search needs
-
-locate-all-requires : tie.Need-locate-all-requires
-locate-all-requires c κs = search needs
+single-errors-requires : tie.Need-single-errors-requires
+single-errors-requires c κs = search needs
 
 returns : tie.Need-returns
-returns c = not-located _ _ _ _ _ _ _ _ (not-true _ (c .if1 .taken)) (c .before .before .locate-all .ensures)
+returns c = decoded-single _ _ _ _ _ (c .if1 .taken) (c .before .single-errors .ensures)
 
-slice-aggregate-evaluate-all : tie.Need-slice-aggregate-evaluate-all
-slice-aggregate-evaluate-all c = search needs
-
-add-evaluate-all : tie.Need-add-evaluate-all
-add-evaluate-all c = search needs
-
-evaluate-all-requires : tie.Need-evaluate-all-requires
-evaluate-all-requires c κs =
-    let s = c .before .before .before .before .before .before .before in
-    let d = all-located _ _ _ _ _ _ _ (not-false _ (c .before .before .before .if1 .left)) (c .before .before .before .before .before .locate-all .ensures) in
-    (s .pre .0 .0, omega (arith, d .long), omega arith, omega arith)
-
-slice-aggregate-errors-at-places : tie.Need-slice-aggregate-errors-at-places
-slice-aggregate-errors-at-places c = search needs
-
-slice-aggregate-errors-at-places-2 : tie.Need-slice-aggregate-errors-at-places-2
-slice-aggregate-errors-at-places-2 c = search needs
-
-errors-at-places-requires : tie.Need-errors-at-places-requires
-errors-at-places-requires c κs =
-    let s = c .before .before .before .before .before .before .before .before .before .before in (
-      s .pre .0,
-      (
-        (s .pre .1 .0 .0, s .pre .1 .0 .1, s .pre .1 .0 .2, s .pre .1 .0 .3, omega arith),
-        (all-located _ _ _ _ _ _ _ (not-false _ (c .before .before .before .before .before .before .if1 .left)) (c .before .before .before .before .before .before .before .before .locate-all .ensures), c .before .before .evaluate-all .ensures),
-      ),
-    )
+search-errors-requires : tie.Need-search-errors-requires
+search-errors-requires c κs = search needs
 
 returns-2 : tie.Need-returns-2
-returns-2 c = not-counted _ _ _ _ _ (not-true _ (c .if2 .taken)) (c .before .before .errors-at-places .ensures)
-
-slice-aggregate-residual : tie.Need-slice-aggregate-residual
-slice-aggregate-residual c = search needs
-
-residual-requires : tie.Need-residual-requires
-residual-requires c κs =
-    let s = c .before .before .before .before .before .before .before .before .before .before .before .before .before .before .before in
-    let d = all-counted _ _ _ _ _ (not-false _ (c .before .before .if2 .left)) (c .before .before .before .before .errors-at-places .ensures) in
-    (s .pre .0 .0, omega arith, omega arith, omega arith, omega (arith, d .errors .long))
-
-returns-3 : tie.Need-returns-3
-unfolding settings check-count
-returns-3 c =
-    let s = c .before .before .before .before .before .before .before .before .before .before .before .before .before .before .before .before in
-    decoded _ _ (settings (s .args .n) (s .args .t) (s .args .size)) _ _ (omega arith) (s .pre .1 .1)
-    (all-counted _ _ _ _ _ (not-false _ (c .before .before .before .if2 .left)) (c .before .before .before .before .before .errors-at-places .ensures))
-    (c .residual .ensures (settings (s .args .n) (s .args .t) (s .args .size)) refl refl)
+returns-2 c = search needs
 
 pub decode-spec : {M : Type 1} → statement M
-decode-spec =
-    tie.close
-    (tie.spec
-    mul-count
-    locate-all-requires
-    returns
-    slice-aggregate-evaluate-all
-    add-evaluate-all
-    evaluate-all-requires
-    slice-aggregate-errors-at-places
-    slice-aggregate-errors-at-places-2
-    errors-at-places-requires
-    returns-2
-    slice-aggregate-residual
-    residual-requires
-    returns-3)
+decode-spec = tie.close (tie.spec single-errors-requires returns search-errors-requires returns-2)

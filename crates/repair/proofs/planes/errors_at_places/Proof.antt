@@ -89,13 +89,19 @@ weighted-errors-requires c κs =
         (omega arith, omega arith, omega arith),
         (
           (omega (arith, values .long), omega (arith, l .loop .inv .1 .long)),
-          λ j h.
-              locator-values (l .loop .p) (a .t + 1) (a .n) (2 * a .t) (a .rows .now) (a .values .now) _ _ (omega arith) (c .before .before .before .before .before .before .before .before .place-powers .ensures) values
-              (lane-locator (l .loop .p) (a .size) (2 * a .t) (a .t) (a .sums .now) (a .t4) (a .rows .now) (c .before .before .before .before .plane-of2 .result) inside (omega arith) d (c .before .before .before .before .plane-of2 .ensures))
-              j (omega arith),
+          (
+            λ j h.
+                locator-values (l .loop .p) (a .t + 1) (a .n) (2 * a .t) (a .rows .now) (a .values .now) _ _ (omega arith) (c .before .before .before .before .before .before .before .before .place-powers .ensures) values
+                (lane-locator (l .loop .p) (a .size) (2 * a .t) (a .t) (a .sums .now) (a .t4) (a .rows .now) (c .before .before .before .before .plane-of2 .result) inside (omega arith) d (c .before .before .before .before .plane-of2 .ensures))
+                j (omega arith),
+            λ j h. l .loop .inv .1 .others j (l .loop .p) (omega arith) (omega arith),
+          ),
         ),
       ),
     )
+
+add-if1 : tie.Need-add-if1 Inv-loop μ-loop
+add-if1 c = omega arith
 
 slice-aggregate-count-wrong : tie.Need-slice-aggregate-count-wrong Inv-loop μ-loop
 slice-aggregate-count-wrong c = sym (c .before .before .weighted-errors .ensures .long ∙ c .before .before .before .before .before .before .before .before .before .before .loop .inv .1 .long)
@@ -117,7 +123,7 @@ returns c =
     (omega arith) (omega arith) (s .pre .1 .1 .0) (c .before .before .before .before .before .before .before .before .before .before .plane-of .ensures) (c .before .before .before .before .before .before .before .before .before .plane-of2 .ensures) (c .before .before .before .before .weighted-errors .ensures)
     (length-take-le (a .n + 2 * a .t) (c .before .before .before .before .before .before .before .before .before .before .before .before .before .place-powers .result) (omega (arith, c .before .before .before .before .before .before .before .before .before .before .before .before .before .place-powers .ensures .long))) in
     let next = weighted-more (l .loop .p) (settings (a .n) (a .t) (a .size)) (a .sums .now) _ _ _ (omega arith) (c .before .before .before .before .before .before .before .before .before .before .before .before .before .place-powers .ensures) (l .loop .inv .1) w in
-    (l .loop .p, inside, (_, next .located (l .loop .p) (omega arith), subst (λ (k : ℕ). a .t < k) (c .before .count-wrong .ensures .0) (c .if1 .taken)))
+    (l .loop .p, inside, (_, next .located (l .loop .p) (omega arith), omega (arith, c .before .count-wrong .ensures .0)))
 
 add-p : tie.Need-add-p Inv-loop μ-loop
 add-p c = omega arith
@@ -138,7 +144,7 @@ loop-again c =
     (omega arith) (omega arith) (s .pre .1 .1 .0) (c .before .before .before .before .before .before .before .before .before .before .plane-of .ensures) (c .before .before .before .before .before .before .before .before .before .plane-of2 .ensures) (c .before .before .before .before .weighted-errors .ensures)
     (length-take-le (a .n + 2 * a .t) (c .before .before .before .before .before .before .before .before .before .before .before .before .before .place-powers .result) (omega (arith, c .before .before .before .before .before .before .before .before .before .before .before .before .before .place-powers .ensures .long))) in
     let next = weighted-more (l .loop .p) (settings (a .n) (a .t) (a .size)) (a .sums .now) _ _ _ (omega arith) (c .before .before .before .before .before .before .before .before .before .before .before .before .before .place-powers .ensures) (l .loop .inv .1) w in
-    (omega arith, next, counted-more (l .loop .p) (a .n + 2 * a .t) (a .t) _ _ _ (omega arith) w (subst (λ (k : ℕ). k ≤ a .t) (c .before .count-wrong .ensures .0) (c .if1 .left)) (l .loop .inv .2))
+    (omega arith, next, counted-more (l .loop .p) (a .n + 2 * a .t) (a .t) _ _ _ (omega arith) w (omega (arith, c .before .count-wrong .ensures .0)) (l .loop .inv .2))
 
 returns-2 : tie.Need-returns-2 Inv-loop μ-loop
 unfolding settings check-count Counted-as
@@ -174,6 +180,7 @@ errors-at-places-spec =
     slice-aggregate-weighted-errors-3
     slice-aggregate-weighted-errors-4
     weighted-errors-requires
+    add-if1
     slice-aggregate-count-wrong
     count-wrong-requires
     returns

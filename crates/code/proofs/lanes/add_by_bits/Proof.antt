@@ -1,0 +1,67 @@
+-- `add_by_bits` meets its contract: a row is done by the doublings of the value, and the rows done before it are kept. Assumes nothing.
+use mathlib.Core.Path.{_≡_, refl}
+use Prim.Native.Nat.{_-_, _≤_}
+use native.Mathlib.Omega.{arith}
+use lib.ListN.{length}
+use borrow.Author.Needs.{needs}
+use Rattle.code.specs.Lanes.{Products-added}
+use Rattle.code.proofs.Multiples.{products-none, products-next, products-to}
+use Rattle.code.proofs.lanes.add_by_bits.Statement.{statement}
+use Rattle.code.proofs.lanes.add_by_bits.Tie as tie
+
+abbrev Inv-loop : tie.InvT-loop
+Inv-loop value constants rows₀ doublings j₀ rows j = (j ≤ length constants) × Products-added j value constants rows₀ rows
+
+abbrev μ-loop : tie.MeasureT-loop
+μ-loop value constants rows₀ doublings j₀ rows j = length constants - j
+
+doublings-requires : tie.Need-doublings-requires Inv-loop μ-loop
+doublings-requires c κs = search needs
+
+loop-holds : tie.Need-loop-holds Inv-loop μ-loop
+loop-holds c = (omega arith, products-none _ _ _)
+
+shared-slice-read-add-product : tie.Need-shared-slice-read-add-product Inv-loop μ-loop
+shared-slice-read-add-product c = omega arith
+
+mul-add-product : tie.Need-mul-add-product Inv-loop μ-loop
+mul-add-product c = omega arith
+
+add-product-requires : tie.Need-add-product-requires Inv-loop μ-loop
+add-product-requires c κs = search needs
+
+add-j : tie.Need-add-j Inv-loop μ-loop
+add-j c = omega arith
+
+loop-less : tie.Need-loop-less Inv-loop μ-loop
+loop-less c = omega arith
+
+loop-again : tie.Need-loop-again Inv-loop μ-loop
+loop-again c =
+    let l = c .before .before .before .before .before .before .before in (
+      omega arith,
+      products-next _ _ _ _ _ _ _ (l .loop .inv .1) (c .before .before .add-product .ensures _ (l .before .doublings .ensures)) (λ p h. refl),
+    )
+
+same-length : tie.Need-same-length Inv-loop μ-loop
+same-length c = c .before .loop .inv .1 .long
+
+returns : tie.Need-returns Inv-loop μ-loop
+returns c = products-to (let e : c .before .loop .j ≡ _ = omega arith in e) (c .before .loop .inv .1)
+
+pub add-by-bits-spec : {M : Type 1} → statement M
+add-by-bits-spec =
+    tie.close
+    (tie.spec
+    Inv-loop
+    μ-loop
+    doublings-requires
+    loop-holds
+    shared-slice-read-add-product
+    mul-add-product
+    add-product-requires
+    add-j
+    loop-less
+    loop-again
+    same-length
+    returns)

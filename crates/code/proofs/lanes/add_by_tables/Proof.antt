@@ -1,0 +1,96 @@
+-- `add_by_tables` meets its contract: a row is done by a low and a high multiple, and the rows done before it are kept. Assumes nothing.
+use mathlib.Core.Path.{_≡_}
+use Prim.Native.Nat.{_-_, _≤_}
+use native.Mathlib.Omega.{arith}
+use lib.ListN.{length}
+use borrow.Author.Needs.{needs}
+use Rattle.code.specs.Lanes.{Products-added}
+use Rattle.code.proofs.Multiples.{doubled-byte, products-none, products-more, products-to}
+use Rattle.code.proofs.lanes.add_by_tables.Statement.{statement}
+use Rattle.code.proofs.lanes.add_by_tables.Tie as tie
+
+abbrev Inv-loop : tie.InvT-loop
+Inv-loop value constants rows₀ low high j₀ rows j = (j ≤ length constants) × Products-added j value constants rows₀ rows
+
+abbrev μ-loop : tie.MeasureT-loop
+μ-loop value constants rows₀ low high j₀ rows j = length constants - j
+
+first-rows-requires : tie.Need-first-rows-requires Inv-loop μ-loop
+first-rows-requires c κs = search needs
+
+multiply-requires : tie.Need-multiply-requires Inv-loop μ-loop
+multiply-requires c κs = c .before .first-rows .ensures .long
+
+sixteenth-rows-requires : tie.Need-sixteenth-rows-requires Inv-loop μ-loop
+sixteenth-rows-requires c κs = search needs
+
+multiply-requires-2 : tie.Need-multiply-requires-2 Inv-loop μ-loop
+multiply-requires-2 c κs = c .before .sixteenth-rows .ensures .long
+
+loop-holds : tie.Need-loop-holds Inv-loop μ-loop
+loop-holds c = (omega arith, products-none _ _ _)
+
+shared-slice-read-c : tie.Need-shared-slice-read-c Inv-loop μ-loop
+shared-slice-read-c c = omega arith
+
+cast-c : tie.Need-cast-c Inv-loop μ-loop
+cast-c c = omega (arith, c .shared-slice-known3 .given (c .before .before .loop .j))
+
+mul-add-multiple : tie.Need-mul-add-multiple Inv-loop μ-loop
+mul-add-multiple c = omega arith
+
+add-multiple-requires : tie.Need-add-multiple-requires Inv-loop μ-loop
+add-multiple-requires c κs = search needs
+
+mul-add-multiple-2 : tie.Need-mul-add-multiple-2 Inv-loop μ-loop
+mul-add-multiple-2 c = omega arith
+
+add-multiple-requires-2 : tie.Need-add-multiple-requires-2 Inv-loop μ-loop
+add-multiple-requires-2 c κs =
+    omega (arith, c .before .before .before .before .before .before .before .shared-slice-known3 .given (c .before .before .before .before .before .before .before .before .before .loop .j), c .before .before .before .before .add-multiple .ensures .long)
+
+add-j : tie.Need-add-j Inv-loop μ-loop
+add-j c = omega arith
+
+loop-less : tie.Need-loop-less Inv-loop μ-loop
+loop-less c = omega arith
+
+loop-again : tie.Need-loop-again Inv-loop μ-loop
+loop-again c =
+    let l = c .before .before .before .before .before .before .before .before .before .before .before .before in
+    let byte = c .before .before .before .before .before .before .before .before .before .before .before .before .before .before .before .before .before .before .before .before .before .before .shared-slice-known .given in (
+      omega arith,
+      products-more _ _ _ _ _ _ _ _ _ (λ p. byte p .fits) (c .before .before .before .before .before .before .before .before .before .before .shared-slice-known3 .given (l .loop .j) .fits)
+          (c .before .before .before .before .before .before .before .before .before .before .before .before .before .before .before .before .before .multiply .ensures .1 _ (λ p. byte p .fits) (c .before .before .before .before .before .before .before .before .before .before .before .before .before .before .before .before .before .before .before .first-rows .ensures))
+          (l .before .multiply2 .ensures .1 _ (λ p. doubled-byte _) (c .before .before .before .before .before .before .before .before .before .before .before .before .before .before .before .sixteenth-rows .ensures))
+          (l .loop .inv .1) (c .before .before .before .before .before .before .before .add-multiple .ensures) (c .before .before .add-multiple2 .ensures),
+    )
+
+same-length : tie.Need-same-length Inv-loop μ-loop
+same-length c = c .before .loop .inv .1 .long
+
+returns : tie.Need-returns Inv-loop μ-loop
+returns c = products-to (let e : c .before .loop .j ≡ _ = omega arith in e) (c .before .loop .inv .1)
+
+pub add-by-tables-spec : {M : Type 1} → statement M
+add-by-tables-spec =
+    tie.close
+    (tie.spec
+    Inv-loop
+    μ-loop
+    first-rows-requires
+    multiply-requires
+    sixteenth-rows-requires
+    multiply-requires-2
+    loop-holds
+    shared-slice-read-c
+    cast-c
+    mul-add-multiple
+    add-multiple-requires
+    mul-add-multiple-2
+    add-multiple-requires-2
+    add-j
+    loop-less
+    loop-again
+    same-length
+    returns)

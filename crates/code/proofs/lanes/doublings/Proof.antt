@@ -1,0 +1,56 @@
+-- `doublings` meets its contract: one doubling more with each turn. Assumes nothing.
+use mathlib.Core.Path.{_≡_}
+use Prim.Native.Nat.{_-_, _≤_}
+use native.Mathlib.Omega.{arith}
+use lib.ListN.{getD}
+use borrow.Author.Needs.{needs}
+use Rattle.code.specs.Lanes.{Doublings}
+use Rattle.code.proofs.Doublings.{doublings-one, doublings-more, doublings-to}
+use Rattle.code.proofs.lanes.doublings.Statement.{statement}
+use Rattle.code.proofs.lanes.doublings.Tie as tie
+
+abbrev Inv-loop : tie.InvT-loop
+Inv-loop value rows₀ k₀ rows k = (1 ≤ k) × (k ≤ 8) × Doublings k (λ p. getD value p 0) rows
+
+abbrev μ-loop : tie.MeasureT-loop
+μ-loop value rows₀ k₀ rows k = 8 - k
+
+first-rows-requires : tie.Need-first-rows-requires Inv-loop μ-loop
+first-rows-requires c κs = search needs
+
+loop-holds : tie.Need-loop-holds Inv-loop μ-loop
+loop-holds c = (omega arith, omega arith, doublings-one _ _ (λ p. c .before .shared-slice-known .given p .fits) (c .first-rows .ensures))
+
+add-double-row : tie.Need-add-double-row Inv-loop μ-loop
+add-double-row c = omega arith
+
+double-row-requires : tie.Need-double-row-requires Inv-loop μ-loop
+double-row-requires c κs = (omega arith, omega arith, c .before .before .loop .inv .2 .long)
+
+add-k : tie.Need-add-k Inv-loop μ-loop
+add-k c = omega arith
+
+loop-less : tie.Need-loop-less Inv-loop μ-loop
+loop-less c = omega arith
+
+loop-again : tie.Need-loop-again Inv-loop μ-loop
+loop-again c =
+    let l = c .before .before .before in (omega arith, omega arith, doublings-more _ _ _ _ (l .loop .inv .0) (l .loop .inv .2) (c .double-row .ensures))
+
+returns : tie.Need-returns Inv-loop μ-loop
+returns c = doublings-to (let e : c .before .loop .k ≡ 8 = omega arith in e) (c .before .loop .inv .2)
+
+pub doublings-spec : {M : Type 1} → statement M
+doublings-spec =
+    tie.close
+    (tie.spec
+    Inv-loop
+    μ-loop
+    first-rows-requires
+    loop-holds
+    add-double-row
+    double-row-requires
+    add-k
+    loop-less
+    loop-again
+    returns)

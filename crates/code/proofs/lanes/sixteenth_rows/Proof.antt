@@ -1,0 +1,63 @@
+-- `sixteenth_rows` meets its contract: zeros, and twice the eighth multiple after them. Assumes nothing.
+use mathlib.Core.Path.{_≡_, refl}
+use Prim.Native.Nat.{_+_, _-_, _≤_}
+use native.Mathlib.Omega.{arith}
+use lib.ListN.{getD}
+use borrow.Author.Needs.{needs}
+use Rattle.field.specs.Field.{doubled}
+use Rattle.code.proofs.Multiples.{First-bytes, first-none, first-more, first-whole, doubled-byte}
+use Rattle.code.proofs.lanes.sixteenth_rows.Statement.{statement}
+use Rattle.code.proofs.lanes.sixteenth_rows.Tie as tie
+
+abbrev Inv-loop : tie.InvT-loop
+Inv-loop low rows₀ p₀ rows p = (p ≤ 8) × First-bytes p (λ q. doubled (getD low (64 + q) 0)) rows
+
+abbrev μ-loop : tie.MeasureT-loop
+μ-loop low rows₀ p₀ rows p = 8 - p
+
+loop-holds : tie.Need-loop-holds Inv-loop μ-loop
+loop-holds c = (omega arith, first-none _ _ refl refl)
+
+add-double : tie.Need-add-double Inv-loop μ-loop
+add-double c = omega arith
+
+element-copy-out-double : tie.Need-element-copy-out-double Inv-loop μ-loop
+element-copy-out-double c = omega arith
+
+double-requires : tie.Need-double-requires Inv-loop μ-loop
+double-requires c κs = search needs
+
+add-rows : tie.Need-add-rows Inv-loop μ-loop
+add-rows c = omega arith
+
+array-write-rows : tie.Need-array-write-rows Inv-loop μ-loop
+array-write-rows c = omega arith
+
+add-p : tie.Need-add-p Inv-loop μ-loop
+add-p c = omega arith
+
+loop-less : tie.Need-loop-less Inv-loop μ-loop
+loop-less c = omega arith
+
+loop-again : tie.Need-loop-again Inv-loop μ-loop
+loop-again c = (omega arith, first-more _ _ _ _ (omega arith) (c .double .ensures) (doubled-byte _) (c .before .before .before .loop .inv .1))
+
+returns : tie.Need-returns Inv-loop μ-loop
+returns c = first-whole _ _ _ (let e : c .before .loop .p ≡ 8 = omega arith in e) (c .before .loop .inv .1)
+
+pub sixteenth-rows-spec : {M : Type 1} → statement M
+sixteenth-rows-spec =
+    tie.close
+    (tie.spec
+    Inv-loop
+    μ-loop
+    loop-holds
+    add-double
+    element-copy-out-double
+    double-requires
+    add-rows
+    array-write-rows
+    add-p
+    loop-less
+    loop-again
+    returns)

@@ -1,0 +1,198 @@
+-- Along a list of calls. Rounds only go up; V, Y and the result stay once they are made; a frame taken stays to the end of its round.
+-- A round that is past was closed somewhere, and a frame that stands in a slot was taken there in this round. Two records of one list
+-- lie on one way, since every call leaves one record behind. Each by induction on the list. Assumes nothing.
+use mathlib.Core.Path.{_≡_, refl, sym, _∙_, ap, subst}
+use mathlib.Core.Bool.{true}
+use mathlib.Core.List.{List, [], _∷_}
+use mathlib.Core.Logic.{_⊎_, inl, inr}
+use mathlib.Core.Option.{Option, some}
+use Prim.Native.Nat.{ℕ, _<_, _≤_}
+use native.Mathlib.Nat.{eq-or-lt-of-le}
+use native.Mathlib.Omega.{arith}
+use Rattle.code.specs.Settings.{Settings}
+use Rattle.column.specs.Value.{Value}
+use Rattle.column.specs.Frame.{operand-in}
+use Rattle.column.specs.Record.{Rec, taken-at, is-taken, with-frame}
+use Rattle.column.specs.Refusal.{take-refusal}
+use Rattle.column.specs.Call.{Call, taking, closing, Leads, Run, no-call, one-call, Passes, here, later}
+use Rattle.column.proofs.Refusal.{Opens, taken-of}
+use Rattle.column.proofs.Frame.{taken-cases, taken-stays}
+use Rattle.column.proofs.Step.{Closes, Step, stays, takes, closes, step-of}
+use Rattle.gradecast.proofs.Proper.{Proper, none-there, proper-step, leads-unique}
+
+-- what stays
+pub record Kept (r q : Rec) : Type 0 where
+  pub up : r .round ≤ q .round
+  pub heard : 2 ≤ r .round → q .heard ≡ r .heard
+  pub agreed : 3 ≤ r .round → q .agreed ≡ r .agreed
+  pub held : 4 ≤ r .round → q .held ≡ r .held
+
+kept-self : (r : Rec) → Kept r r
+kept-self r = record { up = omega arith; heard = λ h. refl; agreed = λ h. refl; held = λ h. refl }
+
+kept-join : (r q z : Rec) → Kept r q → Kept q z → Kept r z
+kept-join r q z a b =
+    record {
+      up = omega (arith, a .up, b .up);
+      heard = λ h. b .heard (omega (arith, a .up)) ∙ a .heard h;
+      agreed = λ h. b .agreed (omega (arith, a .up)) ∙ a .agreed h;
+      held = λ h. b .held (omega (arith, a .up)) ∙ a .held h;
+    }
+
+kept-frame : (r : Rec) (k : ℕ) (x : List ℕ) → Kept r (with-frame r k x)
+unfolding with-frame
+kept-frame r k x = record { up = omega arith; heard = λ h. refl; agreed = λ h. refl; held = λ h. refl }
+
+pub kept-step : (r q : Rec) (c : Call) → Step r q c → Kept r q
+kept-step r q c (stays d u) = record { up = omega (arith, u .round); heard = λ h. u .heard; agreed = λ h. u .agreed; held = λ h. u .held }
+kept-step r q c (takes j bs e g) = subst (Kept r) (sym g) (kept-frame r j (operand-in bs))
+kept-step r q c (closes x) = record { up = omega (arith, x .round); heard = x .heard-kept; agreed = x .agreed-kept; held = λ h. absurd (omega (arith, x .high)) }
+
+pub kept : {r z : Rec} {cs rest : List Call} → Passes r cs z rest → Kept r z
+kept (here r cs) = kept-self r
+kept (later r q z c cs rest l p) = kept-join r q z (kept-step r q c (step-of c r q l)) (kept p)
+
+pub run-passes : {r z : Rec} {cs : List Call} → Run r cs z → Passes r cs z []
+run-passes (no-call r) = here r []
+run-passes (one-call r q z c cs l p) = later r q z c cs [] l (run-passes p)
+
+pub passes-run : {r z : Rec} {cs : List Call} → Passes r cs z [] → Run r cs z
+passes-run (here r cs) = no-call r
+passes-run (later r q z c cs rest l p) = one-call r q z c cs l (passes-run p)
+
+pub passes-join : {r q z : Rec} {cs ds rest : List Call} → Passes r cs q ds → Passes q ds z rest → Passes r cs z rest
+passes-join (here r cs) b = b
+passes-join (later r q z c cs rest l p) b = later r q _ c cs _ l (passes-join p b)
+
+-- a frame taken stays to the end of its round
+taken-step :
+    (r q : Rec) (c : Call) (k : ℕ) → Step r q c → q .round ≡ r .round → is-taken (taken-at (r .frames) k) ≡ true →
+    is-taken (taken-at (q .frames) k) ≡ true
+taken-step r q c k (stays d u) e h = rw (u .frames) h
+taken-step r q c k (takes j bs f g) e h = rw g (taken-stays r k j (operand-in bs) h)
+taken-step r q c k (closes x) e h = absurd (omega (arith, x .round))
+
+pub taken-passes :
+    {r z : Rec} {cs rest : List Call} (k : ℕ) → Passes r cs z rest → z .round ≡ r .round → is-taken (taken-at (r .frames) k) ≡ true →
+    is-taken (taken-at (z .frames) k) ≡ true
+taken-passes k (here r cs) e h = h
+taken-passes k (later r q z c cs rest l p) e h =
+    let step = step-of c r q l in
+    let same-round : q .round ≡ r .round = omega (arith, kept-step r q c step .up, kept p .up) in
+    taken-passes k p (omega arith) (taken-step r q c k step same-round h)
+
+-- where a round that is past was closed
+pub record Closing (r z : Rec) (cs rest : List Call) (m : ℕ) : Type 0 where
+  pub before : Rec
+  pub after : Rec
+  pub left : List Call
+  pub to : Passes r cs before (closing ∷ left)
+  pub in-round : before .round ≡ m
+  pub way : Closes before after
+  pub leads : Leads closing before after
+  pub from : Passes after left z rest
+
+closing-later : (r q z : Rec) (c : Call) (cs rest : List Call) (m : ℕ) → Leads c r q → Closing q z cs rest m → Closing r z (c ∷ cs) rest m
+closing-later r q z c cs rest m l x =
+    record {
+      before = x .before;
+      after = x .after;
+      left = x .left;
+      to = later r q (x .before) c cs (closing ∷ x .left) l (x .to);
+      in-round = x .in-round;
+      way = x .way;
+      leads = x .leads;
+      from = x .from;
+    }
+
+closing-step :
+    (r q z : Rec) (c : Call) (cs rest : List Call) (m : ℕ) → Leads c r q → Step r q c → Passes q cs z rest → r .round ≤ m →
+    (q .round ≤ m → Closing q z cs rest m) → Closing r z (c ∷ cs) rest m
+unfolding with-frame
+closing-step r q z c cs rest m l (stays d u) p a h = closing-later r q z c cs rest m l (h (omega (arith, u .round)))
+closing-step r q z c cs rest m l (takes j bs e g) p a h = closing-later r q z (taking j bs) cs rest m l (h (omega (arith, ap (λ (y : Rec). y .round) g)))
+closing-step r q z c cs rest m l (closes x) p a h = go (eq-or-lt-of-le a)
+  where
+    go : (r .round ≡ m) ⊎ (r .round < m) → Closing r z (closing ∷ cs) rest m
+    go (inl e) = record { before = r; after = q; left = cs; to = here r (closing ∷ cs); in-round = e; way = x; leads = l; from = p }
+    go (inr e) = closing-later r q z closing cs rest m l (h (omega (arith, x .round)))
+
+pub closing-of : {r z : Rec} {cs rest : List Call} (m : ℕ) → Passes r cs z rest → r .round ≤ m → m < z .round → Closing r z cs rest m
+closing-of m (here r cs) a b = absurd (omega arith)
+closing-of m (later r q z c cs rest l p) a b = closing-step r q z c cs rest m l (step-of c r q l) p a (λ h. closing-of m p h b)
+
+-- where a frame that stands in a slot was taken
+pub record Came (r : Rec) (cs : List Call) (k m : ℕ) (x : List ℕ) : Type 0 where
+  pub at : Rec
+  pub bytes : List ℕ
+  pub left : List Call
+  pub to : Passes r cs at (taking k bytes ∷ left)
+  pub in-round : at .round ≡ m
+  pub not-refused : take-refusal at k bytes ≡ 0
+  pub operand : x ≡ operand-in bytes
+
+came-later : (r q : Rec) (c : Call) (cs : List Call) (k m : ℕ) (x : List ℕ) → Leads c r q → Came q cs k m x → Came r (c ∷ cs) k m x
+came-later r q c cs k m x l y =
+    record {
+      at = y .at;
+      bytes = y .bytes;
+      left = y .left;
+      to = later r q (y .at) c cs (taking k (y .bytes) ∷ y .left) l (y .to);
+      in-round = y .in-round;
+      not-refused = y .not-refused;
+      operand = y .operand;
+    }
+
+-- a frame in the slot already, in the same round, or taken on the way
+abbrev pub Stood-or-came : (r : Rec) (cs : List Call) (k m : ℕ) (x : List ℕ) → Type 0
+Stood-or-came r cs k m x = ((taken-at (r .frames) k ≡ some x) × (r .round ≡ m)) ⊎ Came r cs k m x
+
+came-step : (r q : Rec) (c : Call) (cs : List Call) (k : ℕ) (x : List ℕ) → Step r q c → taken-at (q .frames) k ≡ some x → Stood-or-came r (c ∷ cs) k (q .round) x
+unfolding with-frame
+came-step r q c cs k x (stays d u) e = inl (sym (ap (λ (fs : List (Option (List ℕ))). taken-at fs k) (u .frames)) ∙ e, sym (u .round))
+came-step r q c cs k x (closes y) e = none-there (r .settings) (q .frames) k x (y .frames) e
+came-step r q c cs k x (takes j bs f g) e =
+    go (taken-cases r k j x (operand-in bs) (taken-of r j bs f .low) (sym (ap (λ (y : Rec). taken-at (y .frames) k) g) ∙ e))
+  where
+    same-round : r .round ≡ q .round
+    same-round = sym (ap (λ (y : Rec). y .round) g)
+
+    go : ((k ≡ j) × (x ≡ operand-in bs)) ⊎ (taken-at (r .frames) k ≡ some x) → Stood-or-came r (taking j bs ∷ cs) k (q .round) x
+    go (inl h) =
+        inr
+        (rw (h .0)
+        (record { at = r; bytes = bs; left = cs; to = here r (taking j bs ∷ cs); in-round = same-round; not-refused = f; operand = h .1 }))
+    go (inr h) = inl (h, same-round)
+
+pub came-of :
+    {r z : Rec} {cs rest : List Call} (k : ℕ) (x : List ℕ) → Passes r cs z rest → taken-at (z .frames) k ≡ some x → Stood-or-came r cs k (z .round) x
+came-of k x (here r cs) e = inl (e, refl)
+came-of k x (later r q z c cs rest l p) e = go (came-of k x p e)
+  where
+    go : Stood-or-came q cs k (z .round) x → Stood-or-came r (c ∷ cs) k (z .round) x
+    go (inr y) = inr (came-later r q c cs k (z .round) x l y)
+    go (inl y) = subst (λ (m : ℕ). Stood-or-came r (c ∷ cs) k m x) (y .1) (came-step r q c cs k x (step-of c r q l) (y .0))
+
+-- every record of the list is proper, and two of them lie on one way
+module _ (s : Settings) (k run : ℕ) (v : Value) (o : Opens s k v) where
+  pub proper-passes : {r z : Rec} {cs rest : List Call} → Proper s k run v r → Passes r cs z rest → Proper s k run v z
+  proper-passes f (here r cs) = f
+  proper-passes f (later r q z c cs rest l p) = proper-passes (proper-step s k run v o c r q f (step-of c r q l)) p
+
+  pub one-way : {r x y : Rec} {cs xs ys : List Call} → Proper s k run v r → Passes r cs x xs → Passes r cs y ys → Passes x xs y ys ⊎ Passes y ys x xs
+  one-way f (here r cs) b = inl b
+  one-way f (later r q x c cs xs l p) (here t ds) = inr (later r q x c cs xs l p)
+  one-way f (later r q x c cs xs l p) (later t u y d ds ys m w) =
+      one-way (proper-step s k run v o c r q f (step-of c r q l)) p
+      (subst (λ (z : Rec). Passes z cs y ys) (leads-unique s k run v o c r u q f m l) w)
+
+  at-the-end : {z x : Rec} {xs : List Call} → Passes z [] x xs → Passes x xs z []
+  at-the-end (here r cs) = here r []
+
+  -- from each of them the way leads on to the last
+  pub to-last : {r x z : Rec} {cs xs : List Call} → Proper s k run v r → Run r cs z → Passes r cs x xs → Passes x xs z []
+  to-last {r} {x} {z} {cs} {xs} f all p = go (one-way f p (run-passes all))
+    where
+      go : Passes x xs z [] ⊎ Passes z [] x xs → Passes x xs z []
+      go (inl u) = u
+      go (inr u) = at-the-end u

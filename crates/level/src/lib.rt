@@ -1,0 +1,38 @@
+// The level of a group of columns and a column's correction, from what the column ended with.
+pub mod answer;
+mod ends;
+mod heights;
+
+ghost use Rattle.level.specs.Entry.{Level-says};
+use crate::answer::Level;
+use column::record::Column;
+
+// The level and the correction of a finished column whose values are heights: 0, or the refusal 1 to 4, 6, 17, 21 or 22.
+pub fn level(column: Column) -> Level
+    ensures { λ r. ⌜ Level-says column (r .answer) (r .level) (r .correction) ⌝ }
+{
+    let held = column::result(column);
+    if held.answer != 0 {
+        return answer::refused(held.answer);
+    }
+    if column.w != 4 {
+        return answer::refused(21);
+    }
+    let n = column.n as usize;
+    let dropped = column.t as usize;
+    let values = held.values;
+    let confidences = held.confidences;
+    let sorted = ends::ascending(n, values, confidences);
+    if sorted.many < 2 * dropped + 1 {
+        return answer::refused(22);
+    }
+    let heights = sorted.heights;
+    let level = ends::middle(heights, sorted.many, dropped);
+    let own = column.own;
+    let correction = heights::correction(level, own);
+    Level {
+        answer: 0,
+        level,
+        correction,
+    }
+}

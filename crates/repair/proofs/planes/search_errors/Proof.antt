@@ -1,0 +1,93 @@
+-- `search_errors` meets its contract: locators, errors and the residual, each with its own way to fail. Assumes nothing.
+use mathlib.Core.Path.{refl}
+use native.Mathlib.Omega.{arith}
+use borrow.Author.Tests.{not-true, not-false}
+use Rattle.code.specs.Settings.{settings, check-count}
+use Rattle.repair.proofs.PlaneDecoder.{all-located, not-located, all-evaluated, all-counted, not-counted, decoded}
+use borrow.Author.Needs.{needs}
+use Rattle.repair.proofs.planes.search_errors.Statement.{statement}
+use Rattle.repair.proofs.planes.search_errors.Tie as tie
+
+mul-count : tie.Need-mul-count
+mul-count c = search needs
+
+locate-all-requires : tie.Need-locate-all-requires
+locate-all-requires c κs = search needs
+
+returns : tie.Need-returns
+returns c = not-located _ _ _ _ _ _ _ _ (not-true _ (c .if1 .taken)) (c .before .before .locate-all .ensures)
+
+longest-requires : tie.Need-longest-requires
+longest-requires c κs =
+    (omega arith, all-located _ _ _ _ _ _ _ (not-false _ (c .before .before .if1 .left)) (c .before .before .before .before .locate-all .ensures) .many)
+
+slice-aggregate-evaluate-all : tie.Need-slice-aggregate-evaluate-all
+slice-aggregate-evaluate-all c = search needs
+
+add-evaluate-all : tie.Need-add-evaluate-all
+add-evaluate-all c = let l = c .before in let s = l .before .before .before .before .before .before .before in omega (arith, l .longest .ensures .least (s .args .t) (all-located _ _ _ _ _ _ _ (not-false _ (l .before .before .before .if1 .left)) (l .before .before .before .before .before .locate-all .ensures) .small))
+
+evaluate-all-requires : tie.Need-evaluate-all-requires
+evaluate-all-requires c κs =
+    let l = c .before in
+    let s = l .before .before .before .before .before .before .before in
+    let d = all-located _ _ _ _ _ _ _ (not-false _ (l .before .before .before .if1 .left)) (l .before .before .before .before .before .locate-all .ensures) in
+    let most = l .longest .ensures .least (s .args .t) (d .small) in
+    (s .pre .0 .0, omega (arith, d .long), omega arith, omega arith)
+
+slice-aggregate-errors-at-places : tie.Need-slice-aggregate-errors-at-places
+slice-aggregate-errors-at-places c = search needs
+
+slice-aggregate-errors-at-places-2 : tie.Need-slice-aggregate-errors-at-places-2
+slice-aggregate-errors-at-places-2 c = search needs
+
+errors-at-places-requires : tie.Need-errors-at-places-requires
+errors-at-places-requires c κs =
+    let l = c .before .before .before .before in
+    let s = l .before .before .before .before .before .before .before in
+    let d = all-located _ _ _ _ _ _ _ (not-false _ (l .before .before .before .if1 .left)) (l .before .before .before .before .before .locate-all .ensures) in (
+      s .pre .0,
+      (
+        (s .pre .1 .0 .0, s .pre .1 .0 .1, s .pre .1 .0 .2, s .pre .1 .0 .3, omega arith),
+        (d, all-evaluated _ _ _ _ _ _ _ _ _ d (l .longest .ensures) (c .before .before .evaluate-all .ensures)),
+      ),
+    )
+
+returns-2 : tie.Need-returns-2
+returns-2 c = not-counted _ _ _ _ _ (not-true _ (c .if2 .taken)) (c .before .before .errors-at-places .ensures)
+
+slice-aggregate-residual : tie.Need-slice-aggregate-residual
+slice-aggregate-residual c = search needs
+
+residual-requires : tie.Need-residual-requires
+residual-requires c κs =
+    let s = c .before .before .before .before .before .before .before .before .before .before .before .before .before .before .before .before in
+    let d = all-counted _ _ _ _ _ (not-false _ (c .before .before .if2 .left)) (c .before .before .before .before .errors-at-places .ensures) in
+    (s .pre .0 .0, omega arith, omega arith, omega arith, omega (arith, d .errors .long))
+
+returns-3 : tie.Need-returns-3
+unfolding settings check-count
+returns-3 c =
+    let s = c .before .before .before .before .before .before .before .before .before .before .before .before .before .before .before .before .before in
+    decoded _ _ (settings (s .args .n) (s .args .t) (s .args .size)) _ _ (omega arith) (s .pre .1 .1)
+    (all-counted _ _ _ _ _ (not-false _ (c .before .before .before .if2 .left)) (c .before .before .before .before .before .errors-at-places .ensures))
+    (c .residual .ensures (settings (s .args .n) (s .args .t) (s .args .size)) refl refl)
+
+pub search-errors-spec : {M : Type 1} → statement M
+search-errors-spec =
+    tie.close
+    (tie.spec
+    mul-count
+    locate-all-requires
+    returns
+    longest-requires
+    slice-aggregate-evaluate-all
+    add-evaluate-all
+    evaluate-all-requires
+    slice-aggregate-errors-at-places
+    slice-aggregate-errors-at-places-2
+    errors-at-places-requires
+    returns-2
+    slice-aggregate-residual
+    residual-requires
+    returns-3)

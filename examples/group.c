@@ -1,0 +1,67 @@
+/* Four columns, one of which lies: what the good ones believe at the end.
+ *
+ *     rt staticlib sajowemi
+ *     gcc -Iinclude -o target/group examples/group.c target/staticlib/libsajowemi.a && target/group
+ */
+#include "sajowemi.h"
+#include <stdio.h>
+#include <stdlib.h>
+
+enum { GOOD = 3, LIAR = 4, BAD = 1, SIZE = 1, RUN = 7 };
+
+/* What column 4 tells columns 1 to 3: heights in round one, check values in rounds two and three. */
+static const uint8_t lies[3][GOOD][2] = {{{35}, {35}, {40}}, {{22, 61}, {0, 136}, {121, 143}}, {{87, 61}, {87, 61}, {123, 149}}};
+static const uint8_t commands[3] = {0x11, 0x22, 0x33};
+
+static void must(uint32_t answer) {
+    if (answer != SAJOWEMI_DONE) {
+        fprintf(stderr, "refused: %s\n", sajowemi_says(answer));
+        exit(1);
+    }
+}
+
+static void hand(struct sajowemi_column *column, uint32_t slot, const uint8_t *frame, size_t size) {
+    struct sajowemi_outcome outcome = sajowemi_take(*column, slot, frame, size);
+    must(outcome.answer); /* on the air: keep outcome.column, and go on */
+    *column = outcome.column;
+}
+
+static void run_round(struct sajowemi_column *columns, int round) {
+    size_t size = 4 + (round == 0 ? 1 : 2 * BAD) * SIZE;
+    uint8_t frames[GOOD][SAJOWEMI_LONGEST_FRAME];
+    for (int k = 0; k < GOOD; k++)
+        must(sajowemi_send(columns[k], frames[k], sizeof frames[k]));
+    for (int k = 0; k < GOOD; k++) {
+        uint8_t lie[] = {commands[round], LIAR, 0, RUN, lies[round][k][0], lies[round][k][1]};
+        for (int sender = 0; sender < GOOD; sender++)
+            if (sender != k)
+                hand(&columns[k], sender + 1, frames[sender], size);
+        hand(&columns[k], LIAR, lie, size);
+    }
+    for (int k = 0; k < GOOD; k++) {
+        struct sajowemi_outcome outcome = sajowemi_close(columns[k]);
+        must(outcome.answer);
+        columns[k] = outcome.column;
+    }
+}
+
+int main(void) {
+    const uint8_t heights[GOOD][SIZE] = {{241}, {86}, {35}};
+    struct sajowemi_column columns[GOOD];
+    for (int k = 0; k < GOOD; k++) {
+        struct sajowemi_outcome outcome = sajowemi_open(GOOD + BAD, BAD, SIZE, k + 1, RUN, heights[k], SIZE);
+        must(outcome.answer);
+        columns[k] = outcome.column;
+    }
+    for (int round = 0; round < 3; round++)
+        run_round(columns, round);
+    for (int k = 0; k < GOOD; k++) {
+        struct sajowemi_holdings held = sajowemi_result(columns[k]);
+        must(held.answer);
+        printf("column %d believes:", k + 1);
+        for (int of = 0; of < GOOD + BAD; of++)
+            printf(" %d/%d", held.values[of], held.confidences[of]);
+        printf("\n");
+    }
+    return 0;
+}

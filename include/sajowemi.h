@@ -1,0 +1,151 @@
+/* The proved radio link of mobile column lifts: one column's part in the exchange, and the code beneath it.
+ *
+ * Link with libsajowemi.a, which `rt staticlib sajowemi` writes to target/staticlib, for x86-64 Linux. The calls keep no state, take no
+ * memory of their own and may be called from any thread. Each answers every input: 0, or the number of the refusal.
+ *
+ * A record passes by value and comes back in the outcome. Its bits may be anything: each call checks it again. Of a refusal the record
+ * comes back as it was, but for the count of refused frames under 9 to 15, and a lent buffer keeps its bytes. A length says how many
+ * bytes may be read or written at the pointer before it; with length 0 the pointer is not followed.
+ */
+#ifndef SAJOWEMI_H
+#define SAJOWEMI_H
+
+#include <stddef.h>
+#include <stdint.h>
+
+#ifdef __cplusplus
+extern "C" {
+#endif
+
+/* Answers. */
+enum sajowemi_answer {
+    SAJOWEMI_DONE = 0,
+    SAJOWEMI_COLUMN_COUNT = 1,
+    SAJOWEMI_TOO_FEW_COLUMNS = 2,
+    SAJOWEMI_VALUE_SIZE = 3,
+    SAJOWEMI_OWN_NUMBER = 4,
+    SAJOWEMI_OWN_VALUE_LENGTH = 5,
+    SAJOWEMI_OWN_VALUE_BLANK = 6,
+    SAJOWEMI_NO_OPEN_ROUND = 7,
+    SAJOWEMI_SLOT = 8,
+    SAJOWEMI_FRAME_CUT_SHORT = 9,
+    SAJOWEMI_COMMAND = 10,
+    SAJOWEMI_FRAME_LENGTH = 11,
+    SAJOWEMI_SENDER = 12,
+    SAJOWEMI_RUN = 13,
+    SAJOWEMI_OTHER_ROUND = 14,
+    SAJOWEMI_REPEATED = 15,
+    SAJOWEMI_BUFFER_TOO_SHORT = 16,
+    SAJOWEMI_NOT_FINISHED = 17,
+    SAJOWEMI_CODE_LENGTH = 18,
+    SAJOWEMI_LEVEL_VALUE_SIZE = 21,
+    SAJOWEMI_LEVEL_TOO_FEW_VALUES = 22,
+    SAJOWEMI_NONE = 256 /* of repair alone: no vector is near enough */
+};
+
+/* The longest frame, header included: the buffer that always suffices. */
+#define SAJOWEMI_LONGEST_FRAME 164
+
+/* One sender's slot in a round: whether its frame was taken, which any number but 0 says, and the frame. */
+struct sajowemi_slot {
+    uint8_t taken;
+    uint8_t bytes[SAJOWEMI_LONGEST_FRAME];
+};
+
+/* A column's record: n columns, t bad ones borne, w bytes of a value. Round 4 is the end. Values stand one after the other, w bytes each. */
+struct sajowemi_column {
+    uint32_t n;
+    uint32_t t;
+    uint32_t w;
+    uint32_t number;
+    uint32_t round;
+    uint32_t refused;
+    uint16_t run;
+    uint8_t own[8];
+    struct sajowemi_slot slots[32];
+    uint8_t heard[256];
+    uint8_t agreed[256];
+    uint8_t values[256];
+    uint8_t confidences[32];
+};
+
+struct sajowemi_outcome {
+    uint32_t answer;
+    struct sajowemi_column column;
+};
+
+/* Column k's value has w bytes from values + (k - 1) * w on, and its confidence, 0 to 2, is confidences[k - 1]. */
+struct sajowemi_holdings {
+    uint32_t answer;
+    uint8_t values[256];
+    uint8_t confidences[32];
+};
+
+/* The level of the group, and the level less the column's own height, in tenths of a millimetre. */
+struct sajowemi_level {
+    uint32_t answer;
+    int64_t level;
+    int64_t correction;
+};
+
+/* A column with its settings, number, 1 to n, run and own value of w bytes. Refused 1 to 6, with a record of zeros. */
+struct sajowemi_outcome sajowemi_open(uint32_t n, uint32_t t, uint32_t w, uint32_t number, uint16_t run, const uint8_t *own,
+                                      size_t own_length);
+
+/* Takes the frame that came in slot k, which is column k's. Refused 1 to 4 or 6 to 15. */
+struct sajowemi_outcome sajowemi_take(struct sajowemi_column column, uint32_t slot, const uint8_t *frame, size_t frame_length);
+
+/* Writes the round's frame in front of the buffer: 4 + w bytes in round 1, 4 + 2 t w after. Refused 1 to 4, 6, 7 or 16. */
+uint32_t sajowemi_send(struct sajowemi_column column, uint8_t *buffer, size_t buffer_length);
+
+/* Closes the round. Refused 1 to 4, 6 or 7. */
+struct sajowemi_outcome sajowemi_close(struct sajowemi_column column);
+
+/* What a column in round 4 believes. Refused 1 to 4, 6 or 17, with zeros. */
+struct sajowemi_holdings sajowemi_result(struct sajowemi_column column);
+
+/* The level and the correction of a column in round 4 with w = 4. Refused 1 to 4, 6, 17, 21 or 22, with zeros. */
+struct sajowemi_level sajowemi_level(struct sajowemi_column column);
+
+/* The 2 t check values of a vector of n values, in front of the output. Refused 1 to 3 or 18. */
+uint32_t sajowemi_check_values(uint32_t n, uint32_t t, uint32_t w, const uint8_t *vector, size_t vector_length, uint8_t *output,
+                               size_t output_length);
+
+/* The vector repaired by the check values received, in front of the output; or SAJOWEMI_NONE. Refused 1 to 3 or 18. */
+uint32_t sajowemi_repair(uint32_t n, uint32_t t, uint32_t w, const uint8_t *vector, size_t vector_length, const uint8_t *checks,
+                         size_t checks_length, uint8_t *output, size_t output_length);
+
+/* What an answer says, in plain words. */
+static inline const char *sajowemi_says(uint32_t answer) {
+    switch (answer) {
+    case SAJOWEMI_DONE: return "done";
+    case SAJOWEMI_COLUMN_COUNT: return "a group has 1 to 32 columns";
+    case SAJOWEMI_TOO_FEW_COLUMNS: return "too few columns to bear that many bad ones: three for each and one more are needed";
+    case SAJOWEMI_VALUE_SIZE: return "a value has 1 to 8 bytes";
+    case SAJOWEMI_OWN_NUMBER: return "the column's own number is not one of the group's";
+    case SAJOWEMI_OWN_VALUE_LENGTH: return "the own value has not the length that the settings say";
+    case SAJOWEMI_OWN_VALUE_BLANK: return "the own value is blank, all zeros";
+    case SAJOWEMI_NO_OPEN_ROUND: return "the column is in none of the three rounds";
+    case SAJOWEMI_SLOT: return "the slot is the column's own or none of the group's";
+    case SAJOWEMI_FRAME_CUT_SHORT: return "the frame is shorter than its header";
+    case SAJOWEMI_COMMAND: return "the frame begins with an unknown command";
+    case SAJOWEMI_FRAME_LENGTH: return "the frame has not the length of its command";
+    case SAJOWEMI_SENDER: return "the frame names another sender than its slot";
+    case SAJOWEMI_RUN: return "the frame is of another run";
+    case SAJOWEMI_OTHER_ROUND: return "the frame is of another round";
+    case SAJOWEMI_REPEATED: return "this sender's frame of the round was taken before";
+    case SAJOWEMI_BUFFER_TOO_SHORT: return "the buffer is shorter than the frame";
+    case SAJOWEMI_NOT_FINISHED: return "the column has not finished its three rounds";
+    case SAJOWEMI_CODE_LENGTH: return "the vector or the checks have not their length, or the output is too short";
+    case SAJOWEMI_LEVEL_VALUE_SIZE: return "a level is there only of values of 4 bytes";
+    case SAJOWEMI_LEVEL_TOO_FEW_VALUES: return "too few values are believed to work out a level";
+    case SAJOWEMI_NONE: return "no vector is near enough";
+    default: return "no answer of this library";
+    }
+}
+
+#ifdef __cplusplus
+}
+#endif
+
+#endif

@@ -1,0 +1,182 @@
+//! The proved radio link of mobile column lifts: a column's part in the exchange, and the code beneath it. Safe calls over the archive
+//! that `rt staticlib sajowemi` writes; nothing here needs the standard library or memory of its own.
+//!
+//! ```ignore
+//! let mut column = Column::open(Settings { n: 4, t: 1, w: 4 }, 2, run, &height)?;
+//! for _ in 0..3 {
+//!     let mut buffer = [0; LONGEST_FRAME];
+//!     radio.send(column.send(&mut buffer)?);
+//!     while let Some((slot, frame)) = radio.frame_in_this_round() {
+//!         let _ = column.take(slot, frame);
+//!     }
+//!     column.close()?;
+//! }
+//! let beliefs = column.result()?;
+//! motor.go(column.level()?.correction);
+//! ```
+#![no_std]
+
+pub mod archive;
+mod refusal;
+
+pub use archive::LONGEST_FRAME;
+pub use refusal::Refusal;
+
+/// n columns, 1 to 32; t bad ones borne, with n at least 3t + 1; w bytes of a value, 1 to 8.
+#[derive(Clone, Copy, Debug, PartialEq, Eq)]
+pub struct Settings {
+    pub n: u32,
+    pub t: u32,
+    pub w: u32,
+}
+
+/// A column's record: plain data, which a copy keeps as it is.
+#[derive(Clone, Copy)]
+pub struct Column {
+    record: archive::Column,
+}
+
+impl Column {
+    /// A column of the group with its number, 1 to n, the run and its own value of w bytes.
+    pub fn open(settings: Settings, number: u32, run: u16, own: &[u8]) -> Result<Column, Refusal> {
+        let Settings { n, t, w } = settings;
+        let outcome = archive::open(n, t, w, number, run, own);
+        Refusal::from_answer(outcome.answer)?;
+        Ok(Column {
+            record: outcome.column,
+        })
+    }
+
+    /// A column with a record that was kept elsewhere. Its bits may be anything: each call checks them.
+    pub fn from_record(record: archive::Column) -> Column {
+        Column { record }
+    }
+
+    pub fn record(&self) -> &archive::Column {
+        &self.record
+    }
+
+    /// The column's number, 1 to n.
+    pub fn number(&self) -> u32 {
+        self.record.number
+    }
+
+    /// The round, 1 to 3, or 4 at the end.
+    pub fn round(&self) -> u32 {
+        self.record.round
+    }
+
+    /// How many frames were refused, up to the count's top.
+    pub fn refused(&self) -> u32 {
+        self.record.refused
+    }
+
+    /// Takes the frame that came in slot k, which is column k's. A refusal is counted where it is the frame's fault.
+    pub fn take(&mut self, slot: u32, frame: &[u8]) -> Result<(), Refusal> {
+        let outcome = archive::take(&self.record, slot, frame);
+        self.record = outcome.column;
+        Refusal::from_answer(outcome.answer)
+    }
+
+    /// Writes the round's frame in front of the buffer, and hands that part of it back.
+    pub fn send<'a>(&self, buffer: &'a mut [u8]) -> Result<&'a [u8], Refusal> {
+        Refusal::from_answer(archive::send(&self.record, buffer))?;
+        let archive::Column { t, w, round, .. } = self.record;
+        let values = if round == 1 { 1 } else { 2 * t };
+        Ok(&buffer[..4 + (values * w) as usize])
+    }
+
+    /// Closes the round.
+    pub fn close(&mut self) -> Result<(), Refusal> {
+        let outcome = archive::close(&self.record);
+        self.record = outcome.column;
+        Refusal::from_answer(outcome.answer)
+    }
+
+    /// What the column believes at the end of round three.
+    pub fn result(&self) -> Result<Beliefs, Refusal> {
+        let held = archive::result(&self.record);
+        Refusal::from_answer(held.answer)?;
+        Ok(Beliefs {
+            n: self.record.n as usize,
+            w: self.record.w as usize,
+            held,
+        })
+    }
+
+    /// The level of the group and the column's correction, of values that are heights.
+    pub fn level(&self) -> Result<Level, Refusal> {
+        let archive::Level {
+            answer,
+            level,
+            correction,
+        } = archive::level(&self.record);
+        Refusal::from_answer(answer)?;
+        Ok(Level { level, correction })
+    }
+}
+
+/// What the motors act on, in tenths of a millimetre.
+#[derive(Clone, Copy, Debug, PartialEq, Eq)]
+pub struct Level {
+    /// The level of the group.
+    pub level: i64,
+    /// The level less the column's own height: how far to go, down where it is negative.
+    pub correction: i64,
+}
+
+/// The values of all columns, each with a confidence.
+#[derive(Clone, Copy)]
+pub struct Beliefs {
+    n: usize,
+    w: usize,
+    held: archive::Holdings,
+}
+
+impl Beliefs {
+    /// The value of column k and its confidence, 0 to 2; a value of zeros where it is 0. None where there is no column k.
+    pub fn of(&self, k: u32) -> Option<(&[u8], u8)> {
+        let at = (k as usize).checked_sub(1).filter(|at| *at < self.n)?;
+        Some((
+            &self.held.values[at * self.w..(at + 1) * self.w],
+            self.held.confidences[at],
+        ))
+    }
+
+    /// The same of columns 1 to n.
+    pub fn all(&self) -> impl Iterator<Item = (&[u8], u8)> {
+        (1..=self.n as u32).filter_map(|k| self.of(k))
+    }
+}
+
+/// The 2t check values of a vector of n values, in front of the output, whose other bytes are kept.
+pub fn check_values(settings: Settings, vector: &[u8], output: &mut [u8]) -> Result<(), Refusal> {
+    let Settings { n, t, w } = settings;
+    Refusal::from_answer(archive::check_values(n, t, w, vector, output))
+}
+
+/// What repair found.
+#[derive(Clone, Copy, Debug, PartialEq, Eq)]
+pub enum Repair {
+    /// The output begins with the one vector near enough in every byte plane.
+    Repaired,
+    /// Some plane has no codeword near; the output keeps its bytes.
+    Nothing,
+}
+
+/// The archive's answer where nothing is near.
+const NONE: u32 = 256;
+
+/// The vector of n values repaired by the 2t check values received, in front of the output, whose other bytes are kept.
+pub fn repair(
+    settings: Settings,
+    vector: &[u8],
+    checks: &[u8],
+    output: &mut [u8],
+) -> Result<Repair, Refusal> {
+    let Settings { n, t, w } = settings;
+    match archive::repair(n, t, w, vector, checks, output) {
+        NONE => Ok(Repair::Nothing),
+        answer => Refusal::from_answer(answer).map(|()| Repair::Repaired),
+    }
+}

@@ -1,0 +1,44 @@
+//! The compiled calls against the table of refusals: every frame length, command and point of the exchange, settings out of range,
+//! buffers of every length, damaged records. Answers, whole records and all lent bytes are compared; the first difference ends the run.
+
+#[path = "../../rust/src/archive.rs"]
+mod archive;
+#[path = "../shared/chance.rs"]
+mod chance;
+#[path = "../shared/coder.rs"]
+mod coder;
+mod compare;
+mod damage;
+#[path = "../shared/frames.rs"]
+mod frames;
+#[path = "../shared/record.rs"]
+mod record;
+#[path = "../shared/refusals.rs"]
+mod refusals;
+mod sending;
+mod settings;
+mod taking;
+
+const RUN: u16 = 0x1234;
+
+/// n, t and w of the groups that exchange.
+#[rustfmt::skip]
+const GROUPS: [(u32, u32, u32); 6] = [(4, 1, 1), (31, 10, 8), (1, 0, 1), (32, 10, 8), (7, 2, 3), (2, 0, 4)];
+
+fn main() {
+    let every: u64 = std::thread::scope(|scope| {
+        let threads = GROUPS.map(|(n, t, w)| scope.spawn(move || taking::all_frames(n, t, w)));
+        threads.map(|thread| thread.join().unwrap()).iter().sum()
+    });
+    let named = taking::longest_frame() + taking::count_at_top();
+    let buffers: u64 = GROUPS
+        .iter()
+        .map(|&(n, t, w)| sending::all_buffers(n, t, w))
+        .sum();
+    let settings = settings::all_settings();
+    let damaged = damage::damaged_records(100_000);
+    println!(
+        "hostile_frames: as the table says: {every} frames, {named} named cases, {buffers} buffers, \
+         {settings} calls over settings, {damaged} damaged records"
+    );
+}

@@ -1,0 +1,124 @@
+/* Sizes and offsets of every struct that crosses the edge, in C: against the numbers, and against what the compiled calls read and write. */
+#undef NDEBUG
+#include "sajowemi.h"
+#include <assert.h>
+#include <stdio.h>
+#include <string.h>
+
+#define STANDS(type, field, at) _Static_assert(offsetof(struct type, field) == (at), #type "." #field)
+#define SIZE(type, size) _Static_assert(sizeof(struct type) == (size), #type)
+
+SIZE(sajowemi_slot, 165);
+STANDS(sajowemi_slot, taken, 0);
+STANDS(sajowemi_slot, bytes, 1);
+SIZE(sajowemi_column, 6116);
+_Static_assert(_Alignof(struct sajowemi_column) == 4, "alignment");
+STANDS(sajowemi_column, n, 0);
+STANDS(sajowemi_column, t, 4);
+STANDS(sajowemi_column, w, 8);
+STANDS(sajowemi_column, number, 12);
+STANDS(sajowemi_column, round, 16);
+STANDS(sajowemi_column, refused, 20);
+STANDS(sajowemi_column, run, 24);
+STANDS(sajowemi_column, own, 26);
+STANDS(sajowemi_column, slots, 34);
+STANDS(sajowemi_column, heard, 5314);
+STANDS(sajowemi_column, agreed, 5570);
+STANDS(sajowemi_column, values, 5826);
+STANDS(sajowemi_column, confidences, 6082);
+SIZE(sajowemi_outcome, 6120);
+STANDS(sajowemi_outcome, answer, 0);
+STANDS(sajowemi_outcome, column, 4);
+SIZE(sajowemi_holdings, 292);
+STANDS(sajowemi_holdings, answer, 0);
+STANDS(sajowemi_holdings, values, 4);
+STANDS(sajowemi_holdings, confidences, 260);
+SIZE(sajowemi_level, 24);
+STANDS(sajowemi_level, answer, 0);
+STANDS(sajowemi_level, level, 8);
+STANDS(sajowemi_level, correction, 16);
+
+static uint32_t number_at(const struct sajowemi_column *column, size_t at) {
+    uint32_t number;
+    memcpy(&number, (const uint8_t *)column + at, sizeof number);
+    return number;
+}
+
+/* Opening, taking and refusing write each field where the numbers above say. */
+static void written(void) {
+    const uint8_t own[] = {61, 62, 63};
+    const uint8_t frame[] = {0x11, 4, 0x12, 0x34, 71, 72, 73};
+    const uint32_t expected[] = {7, 2, 3, 5, 1, 0};
+    struct sajowemi_outcome outcome = sajowemi_open(7, 2, 3, 5, 0x1234, own, 3);
+    const uint8_t *bytes = (const uint8_t *)&outcome.column;
+    const size_t slot = 34 + 3 * 165;
+
+    assert(outcome.answer == SAJOWEMI_DONE);
+    for (size_t k = 0; k < 6; k++)
+        assert(number_at(&outcome.column, 4 * k) == expected[k]);
+    assert(bytes[24] == 0x34 && bytes[25] == 0x12);
+    assert(memcmp(bytes + 26, own, 3) == 0);
+    outcome = sajowemi_take(outcome.column, 4, frame, sizeof frame);
+    assert(outcome.answer == SAJOWEMI_DONE);
+    assert(bytes[slot] != 0 && memcmp(bytes + slot + 5, frame + 4, 3) == 0);
+    outcome = sajowemi_take(outcome.column, 4, frame, sizeof frame);
+    assert(outcome.answer == SAJOWEMI_REPEATED && number_at(&outcome.column, 20) == 1);
+    outcome = sajowemi_close(outcome.column);
+    assert(outcome.answer == SAJOWEMI_DONE && number_at(&outcome.column, 16) == 2);
+    assert(memcmp(bytes + 5314 + 9, frame + 4, 3) == 0 && memcmp(bytes + 5314 + 12, own, 3) == 0);
+}
+
+/* Sending and asking read each field where the numbers above say. */
+static void read(void) {
+    const uint8_t own[] = {61, 62, 63};
+    const uint8_t expected[] = {0x11, 5, 0x12, 0x34, 61, 62, 63};
+    struct sajowemi_column column = sajowemi_open(7, 2, 3, 5, 0x1234, own, 3).column;
+    struct sajowemi_holdings held;
+    uint8_t *bytes = (uint8_t *)&column;
+    uint8_t frame[7];
+
+    assert(sajowemi_send(column, frame, sizeof frame) == SAJOWEMI_DONE);
+    assert(memcmp(frame, expected, sizeof frame) == 0);
+    column.round = 4;
+    for (size_t at = 5826; at < 6114; at++)
+        bytes[at] = (uint8_t)at;
+    held = sajowemi_result(column);
+    assert(held.answer == SAJOWEMI_DONE);
+    assert(memcmp(held.values, bytes + 5826, 21) == 0);
+    assert(memcmp(held.confidences, bytes + 6082, 7) == 0);
+}
+
+/* A column alone ends with its own value: Y is written in round two, values and confidences in round three. */
+static void ended(void) {
+    const uint8_t own[] = {8, 7};
+    struct sajowemi_column column = sajowemi_open(1, 0, 2, 1, 9, own, 2).column;
+    const uint8_t *bytes = (const uint8_t *)&column;
+
+    for (int round = 1; round <= 3; round++)
+        column = sajowemi_close(column).column;
+    assert(memcmp(bytes + 5314, own, 2) == 0 && memcmp(bytes + 5570, own, 2) == 0);
+    assert(memcmp(bytes + 5826, own, 2) == 0 && bytes[6082] == 2);
+}
+
+/* Two columns at -5 and -2 tenths: the level is -4, and column 1 goes up by one. */
+static void levelled(void) {
+    const uint8_t heights[] = {255, 255, 255, 251, 255, 255, 255, 254};
+    struct sajowemi_column column = sajowemi_open(2, 0, 4, 1, 9, heights, 4).column;
+    struct sajowemi_level level = sajowemi_level(column);
+
+    assert(level.answer == SAJOWEMI_NOT_FINISHED && level.level == 0 && level.correction == 0);
+    column.round = 4;
+    memcpy(column.values, heights, sizeof heights);
+    memset(column.confidences, 1, 2);
+    level = sajowemi_level(column);
+    assert(level.answer == SAJOWEMI_DONE && level.level == -4 && level.correction == 1);
+}
+
+int main(void) {
+    written();
+    read();
+    ended();
+    levelled();
+    puts("layout: the structs stand in C as the compiled calls read and write them");
+    return 0;
+}

@@ -1,0 +1,195 @@
+//! One column's exchange, written apart from the library: tables of values as lists, counts in a map, and repair by linear equations.
+
+use crate::coder::check_values;
+use crate::frames::{command_of, frame};
+use crate::linear;
+use crate::refusals::{Call, Case, answer, count_after};
+use std::collections::BTreeMap;
+
+pub type Value = Vec<u8>;
+
+#[derive(Clone)]
+pub struct Model {
+    pub n: u32,
+    pub t: u32,
+    pub w: u32,
+    pub number: u32,
+    pub run: u16,
+    pub own: Value,
+    pub round: u32,
+    pub refused: u32,
+    pub operands: Vec<Option<Vec<u8>>>,
+    pub heard: Vec<Value>,
+    pub agreed: Vec<Value>,
+    pub held: Vec<(Value, u8)>,
+}
+
+impl Model {
+    pub fn open(n: u32, t: u32, w: u32, number: u32, run: u16, own: &[u8]) -> Model {
+        let operands = vec![None; n as usize];
+        let (own, heard, agreed, held) = (own.to_vec(), vec![], vec![], vec![]);
+        Model {
+            n,
+            t,
+            w,
+            number,
+            run,
+            own,
+            round: 1,
+            refused: 0,
+            operands,
+            heard,
+            agreed,
+            held,
+        }
+    }
+
+    pub fn take(&mut self, slot: u32, frame: &[u8]) -> u32 {
+        let Model {
+            n,
+            t,
+            w,
+            number,
+            run,
+            round,
+            ..
+        } = *self;
+        let taken = (1..=n).contains(&slot) && self.operands[slot as usize - 1].is_some();
+        let case = Case {
+            n,
+            t,
+            w,
+            number,
+            own: &self.own,
+            round,
+            run,
+            slot,
+            frame,
+            taken,
+            room: 0,
+        };
+        let answered = answer(Call::Take, &case);
+        if answered == 0 {
+            self.operands[slot as usize - 1] = Some(frame[4..].to_vec());
+        }
+        self.refused = count_after(answered, self.refused);
+        answered
+    }
+
+    /// The frame of the round.
+    pub fn frame(&self) -> Vec<u8> {
+        let operand = match self.round {
+            1 => self.own.clone(),
+            2 => self.checks(&self.heard),
+            _ => self.checks(&self.agreed),
+        };
+        frame(
+            command_of(self.round),
+            self.number as u8,
+            self.run,
+            &operand,
+        )
+    }
+
+    pub fn checks(&self, vector: &[Value]) -> Vec<u8> {
+        check_values(&vector.concat(), self.t as usize, self.w as usize)
+    }
+
+    pub fn close(&mut self) {
+        match self.round {
+            1 => self.heard = (1..=self.n).map(|k| self.heard_of(k)).collect(),
+            2 => {
+                let table = self.table(&self.heard);
+                self.agreed = (0..self.n as usize)
+                    .map(|k| self.agreed_at(&table, k))
+                    .collect();
+            }
+            _ => {
+                let table = self.table(&self.agreed);
+                self.held = (0..self.n as usize)
+                    .map(|k| self.held_at(&table, k))
+                    .collect();
+            }
+        }
+        self.round += 1;
+        self.operands = vec![None; self.n as usize];
+    }
+
+    fn blank(&self) -> Value {
+        vec![0; self.w as usize]
+    }
+
+    fn heard_of(&self, k: u32) -> Value {
+        if k == self.number {
+            return self.own.clone();
+        }
+        self.operands[k as usize - 1]
+            .clone()
+            .unwrap_or(self.blank())
+    }
+
+    fn table(&self, vector: &[Value]) -> Vec<Vec<Value>> {
+        (1..=self.n).map(|k| self.row(k, vector)).collect()
+    }
+
+    fn row(&self, k: u32, vector: &[Value]) -> Vec<Value> {
+        if k == self.number {
+            return vector.to_vec();
+        }
+        let blanks = vec![self.blank(); self.n as usize];
+        let Some(checks) = &self.operands[k as usize - 1] else {
+            return blanks;
+        };
+        let mut repaired = vec![0; (self.n * self.w) as usize];
+        match linear::repair(
+            self.n,
+            self.t,
+            self.w,
+            &vector.concat(),
+            checks,
+            &mut repaired,
+        ) {
+            0 => repaired
+                .chunks(self.w as usize)
+                .map(<[u8]>::to_vec)
+                .collect(),
+            _ => blanks,
+        }
+    }
+
+    fn agreed_at(&self, table: &[Vec<Value>], k: usize) -> Value {
+        let found = found(table, k)
+            .into_iter()
+            .find(|(_, times)| *times >= self.n - self.t);
+        found.map_or(self.blank(), |(value, _)| value)
+    }
+
+    fn held_at(&self, table: &[Vec<Value>], k: usize) -> (Value, u8) {
+        let mut best = (self.blank(), 0);
+        for (value, times) in found(table, k) {
+            // Smaller bytes come first, so that a tie keeps them.
+            if value != self.blank() && times > best.1 {
+                best = (value, times);
+            }
+        }
+        match best {
+            (value, times) if times > 2 * self.t => (value, 2),
+            (value, times) if times > self.t => (value, 1),
+            _ => (self.blank(), 0),
+        }
+    }
+}
+
+/// How often each value stands in a column of a table.
+fn found(table: &[Vec<Value>], k: usize) -> BTreeMap<Value, u32> {
+    let mut times = BTreeMap::new();
+    for row in table {
+        *times.entry(row[k].clone()).or_default() += 1;
+    }
+    times
+}
+
+/// What two good columns promise each other about one column: confidences at most one apart, and equal values where both are above 0.
+pub fn agree<V: PartialEq>(a: &(V, u8), b: &(V, u8)) -> bool {
+    a.1.abs_diff(b.1) <= 1 && (a.1 == 0 || b.1 == 0 || a.0 == b.0)
+}

@@ -1,0 +1,155 @@
+//! The safe crate: an exchange of four good columns, every refusal it can name, and the texts, which are those of the C header.
+
+use sajowemi::{Column, LONGEST_FRAME, Level, Refusal, Repair, Settings, check_values, repair};
+
+const FOUR: Settings = Settings { n: 4, t: 1, w: 1 };
+const NUMBERS: [u32; 20] = [
+    1, 2, 3, 4, 5, 6, 7, 8, 9, 10, 11, 12, 13, 14, 15, 16, 17, 18, 21, 22,
+];
+
+fn exchange() {
+    let heights = [241u8, 86, 35, 77];
+    let mut group: Vec<Column> = (1..=4)
+        .map(|k| Column::open(FOUR, k, 7, &heights[k as usize - 1..][..1]).unwrap())
+        .collect();
+    for round in 1..=3 {
+        let sent = group.clone();
+        for column in &mut group {
+            assert_eq!(column.round(), round);
+            let own = column.number();
+            for sender in sent.iter().filter(|sender| sender.number() != own) {
+                let mut buffer = [0; LONGEST_FRAME];
+                let frame = sender.send(&mut buffer).unwrap();
+                assert_eq!(frame.len(), if round == 1 { 5 } else { 6 });
+                column.take(sender.number(), frame).unwrap();
+                assert_eq!(column.take(sender.number(), frame), Err(Refusal::Repeated));
+            }
+            column.close().unwrap();
+        }
+    }
+    for column in &group {
+        let beliefs = column.result().unwrap();
+        assert!(
+            beliefs.all().eq(heights
+                .iter()
+                .map(|height| (core::slice::from_ref(height), 2)))
+        );
+        assert_eq!(
+            (beliefs.of(0), beliefs.of(5), column.refused()),
+            (None, None, 9)
+        );
+        assert_eq!(
+            Column::from_record(*column.record()).close(),
+            Err(Refusal::NoOpenRound)
+        );
+    }
+}
+
+fn level() {
+    let mut alone =
+        Column::open(Settings { n: 1, t: 0, w: 4 }, 1, 7, &1004i32.to_be_bytes()).unwrap();
+    assert_eq!(alone.level(), Err(Refusal::NotFinished));
+    for _ in 1..=3 {
+        alone.close().unwrap();
+    }
+    let (level, correction) = (1004, 0);
+    assert_eq!(alone.level(), Ok(Level { level, correction }));
+    let mut short = Column::open(Settings { n: 1, t: 0, w: 1 }, 1, 7, &[4]).unwrap();
+    for _ in 1..=3 {
+        short.close().unwrap();
+    }
+    assert_eq!(short.level(), Err(Refusal::LevelValueSize));
+    let mut record = *alone.record();
+    record.confidences[0] = 0;
+    assert_eq!(
+        Column::from_record(record).level(),
+        Err(Refusal::LevelTooFewValues)
+    );
+}
+
+fn code() {
+    let vector = [241, 86, 35, 35];
+    let mut checks = [9; 3];
+    assert_eq!(check_values(FOUR, &vector, &mut checks), Ok(()));
+    assert_eq!(checks, [39, 78, 9]);
+    let mut output = [9; 5];
+    assert_eq!(
+        repair(FOUR, &vector, &[22, 77], &mut output),
+        Ok(Repair::Nothing)
+    );
+    assert_eq!(output, [9; 5]);
+    assert_eq!(
+        repair(FOUR, &vector, &[0, 136], &mut output),
+        Ok(Repair::Repaired)
+    );
+    assert_eq!(output, [241, 86, 129, 35, 9]);
+    assert_eq!(
+        repair(FOUR, &vector, &[0], &mut output),
+        Err(Refusal::CodeLength)
+    );
+    assert_eq!(
+        check_values(Settings { n: 3, t: 1, w: 1 }, &vector, &mut checks),
+        Err(Refusal::TooFewColumns)
+    );
+}
+
+fn opening_refusal(n: u32, t: u32, w: u32, number: u32, own: &[u8]) -> u32 {
+    Column::open(Settings { n, t, w }, number, 7, own)
+        .err()
+        .map_or(0, Refusal::number)
+}
+
+fn refusals() {
+    let refused = [
+        opening_refusal(33, 0, 1, 1, &[1]),
+        opening_refusal(3, 1, 1, 1, &[1]),
+        opening_refusal(4, 1, 9, 1, &[1]),
+        opening_refusal(4, 1, 1, 5, &[1]),
+        opening_refusal(4, 1, 1, 4, &[1, 2]),
+        opening_refusal(4, 1, 1, 4, &[0]),
+    ];
+    assert_eq!(refused, [1, 2, 3, 4, 5, 6]);
+    let mut column = Column::open(FOUR, 1, 7, &[1]).unwrap();
+    let mut frame_refusal =
+        |slot: u32, frame: &[u8]| column.take(slot, frame).err().map_or(0, Refusal::number);
+    assert_eq!(frame_refusal(1, &[]), 8);
+    assert_eq!(frame_refusal(2, &[]), 9);
+    assert_eq!(frame_refusal(2, &[1, 2, 0, 7, 5]), 10);
+    assert_eq!(frame_refusal(2, &[17, 2, 0, 7]), 11);
+    assert_eq!(frame_refusal(2, &[17, 3, 0, 7, 5]), 12);
+    assert_eq!(frame_refusal(2, &[17, 2, 7, 0, 5]), 13);
+    assert_eq!(frame_refusal(2, &[34, 2, 0, 7, 5, 5]), 14);
+    assert_eq!(column.refused(), 6);
+    assert_eq!(column.send(&mut [0; 4]), Err(Refusal::BufferTooShort));
+    assert_eq!(column.result().err(), Some(Refusal::NotFinished));
+}
+
+fn texts() {
+    let header = std::fs::read_to_string("include/sajowemi.h").unwrap();
+    for number in 0..=300 {
+        let refusal = Refusal::from_number(number);
+        assert_eq!(
+            refusal.map(Refusal::number),
+            Some(number).filter(|number| NUMBERS.contains(number))
+        );
+        if let Some(refusal) = refusal {
+            assert!(
+                header.contains(&format!("return \"{refusal}\";")),
+                "{refusal}"
+            );
+            assert!(header.contains(&format!(" = {number},\n")), "{number}");
+        }
+    }
+}
+
+fn main() {
+    exchange();
+    level();
+    code();
+    refusals();
+    texts();
+    println!(
+        "wrapper: the safe crate runs an exchange, and has the {} refusals of the header",
+        NUMBERS.len()
+    );
+}
