@@ -1,10 +1,10 @@
 -- The run of a group, round by round. A good column's record is proper after its opening and after each round, and is then one round
 -- further on, since it can be closed; so its frame is sent in each round and its result is answered at the end. Assumes nothing.
 use mathlib.Core.Path.{_≡_, refl, sym, _∙_, ap, subst}
-use mathlib.Core.Bool.{Bool, true, false, cond}
+use mathlib.Core.Bool.{true}
 use mathlib.Core.List.{List, [], _∷_}
 use mathlib.Core.Option.{Option, none, some}
-use Prim.Native.Nat.{ℕ, zero, suc, _-_, _≤_, _<_}
+use Prim.Native.Nat.{ℕ, zero, suc, _-_, _≤_}
 use native.Mathlib.Omega.{arith}
 use lib.ListN.{getD}
 use borrow.Author.Tests.{le-leb, le-ltb, eq-eqb}
@@ -22,7 +22,7 @@ use Rattle.column.proofs.Size.{frame-fits-slot}
 use Rattle.column.proofs.Step.{step-of, after-take-round}
 use Rattle.gradecast.proofs.Proper.{Proper, proper-open, proper-fine, proper-step}
 use Rattle.bench.specs.Said.{Said, own-of, is-good}
-use Rattle.bench.specs.Group.{bench-run, taking-first, calls-from, round-calls, heard-in, Group-run}
+use Rattle.bench.specs.Group.{bench-run, taking-first, calls-from, round-calls}
 use Rattle.bench.specs.Finished.{Finished, record-of, column-past, All-finished}
 use Rattle.bench.specs.Running.{Round-run, Group-ran}
 
@@ -60,13 +60,13 @@ closed-round (suc (suc (suc zero))) r q l h c = ap (λ (z : Rec). z .round) (c .
 closed-round (suc (suc (suc (suc m)))) r q l h c = absurd (omega arith)
 
 -- a good column's record in a round
-record In-round (s : Settings) (k : ℕ) (v : Value) (m : ℕ) (r : Rec) : Type 0 where
+pub record In-round (s : Settings) (k : ℕ) (v : Value) (m : ℕ) (r : Rec) : Type 0 where
   pub proper : Proper s k bench-run v r
   pub round : r .round ≡ m
 
 module _ (s : Settings) (k : ℕ) (v : Value) (o : Opens s k v) where
   -- one round further on
-  next-round-of :
+  pub next-round-of :
       (heard : ℕ → Option (List ℕ)) (many slot m : ℕ) (r q : Rec) → 1 ≤ m → m ≤ 3 → In-round s k v m r → Run r (calls-from heard many slot) q →
       In-round s k v (suc m) q
   unfolding calls-from taking-first After-close Leads
@@ -96,7 +96,7 @@ module _ (s : Settings) (k : ℕ) (v : Value) (o : Opens s k v) where
           (first .2)
 
 -- a good column has an own value
-good-own : (f : Said) (k : ℕ) → is-good f k ≡ true → (v : Value) × (own-of (f .owns) k ≡ some v)
+pub good-own : (f : Said) (k : ℕ) → is-good f k ≡ true → (v : Value) × (own-of (f .owns) k ≡ some v)
 unfolding is-good is-taken
 good-own f k e = go (own-of (f .owns) k) refl e
   where

@@ -9,16 +9,15 @@ use native.Mathlib.Omega.{arith}
 use lib.Dec.{eqb, leb, ltb}
 use lib.ListN.{length, getD, take, drop, length-drop}
 use lib.Seq.{getD-drop, drop-drop}
-use borrow.Author.Tests.{eqb-true, eqb-false, leb-true, ltb-false, not-false, eq-eqb, ne-eqb}
+use borrow.Author.Tests.{eqb-true, leb-true, ltb-false, not-false, eq-eqb, ne-eqb}
 use Rattle.code.specs.Settings.{Settings, settings, value-size}
 use Rattle.code.proofs.Bytes.{and-split}
 use Rattle.column.proofs.Bool.{true-not-false}
 use Rattle.column.specs.Value.{is-blank}
 use Rattle.column.specs.Frame.{operand-size}
 use Rattle.column.specs.Refusal.{first-of, blank-refusal}
-use Rattle.column.proofs.Refusal.{first-of-zero}
 use Rattle.bench.specs.Said.{Said, message}
-use Rattle.bench.specs.Command.{command-in, is-known, head-size, body-size, command-size, body-in, no-message, form-refusal, message-in, is-column, column-refusal, message-refusal, checks-round-refusal, operand-refusal, value-refusal, command-refusal}
+use Rattle.bench.specs.Command.{command-in, is-known, head-size, body-size, command-size, body-in, no-message, form-refusal, message-in, is-column, column-refusal, message-refusal, checks-round-refusal, operand-refusal, value-refusal}
 use Rattle.bench.specs.declared.places.Places.{Places}
 
 pub byte-in : (file : List ℕ) (at i : ℕ) → getD (drop at file) i 0 ≡ getD file (at + i) 0
@@ -29,17 +28,17 @@ unfolding command-in
 command-at file at = byte-in file at 0 ∙ (let e : at + 0 ≡ at = omega arith in ap (λ (i : ℕ). getD file i 0) e)
 
 -- one line of a chain
-passed : (q : Bool) (m rest : ℕ) → 1 ≤ m → cond q m rest ≡ 0 → (q ≡ false) × (rest ≡ 0)
-passed false m rest h e = (refl, e)
-passed true m rest h e = absurd (omega arith)
+pub line-passed : (q : Bool) (m rest : ℕ) → 1 ≤ m → cond q m rest ≡ 0 → (q ≡ false) × (rest ≡ 0)
+line-passed false m rest h e = (refl, e)
+line-passed true m rest h e = absurd (omega arith)
 
 -- 19
 pub form-fits : (f : Said) (bs : List ℕ) → form-refusal f bs ≡ 0 → (is-known (command-in bs) ≡ true) × (command-size (f .settings) (command-in bs) ≤ length bs)
 unfolding form-refusal
 form-fits f bs e =
-    let known = passed (not (is-known (command-in bs))) 19 _ (omega arith) e in
-    let order = passed (eqb (command-in bs) 4 && not (no-message (f .messages))) 19 _ (omega arith) (known .1) in
-    let size = passed (ltb (length bs) (command-size (f .settings) (command-in bs))) 19 _ (omega arith) (order .1) in
+    let known = line-passed (not (is-known (command-in bs))) 19 _ (omega arith) e in
+    let order = line-passed (eqb (command-in bs) 4 && not (no-message (f .messages))) 19 _ (omega arith) (known .1) in
+    let size = line-passed (ltb (length bs) (command-size (f .settings) (command-in bs))) 19 _ (omega arith) (order .1) in
     (not-false _ (known .0), ltb-false _ _ (size .0))
 
 -- the four commands
@@ -63,7 +62,7 @@ column-inside s k e = let tests = and-split (leb 1 k) (leb k (s .n)) e in (leb-t
 
 pub own-inside : (f : Said) (k : ℕ) → column-refusal f k ≡ 0 → (1 ≤ k) × (k ≤ f .settings .n)
 unfolding column-refusal
-own-inside f k e = column-inside (f .settings) k (not-false _ (passed (not (is-column (f .settings) k)) 20 _ (omega arith) e .0))
+own-inside f k e = column-inside (f .settings) k (not-false _ (line-passed (not (is-column (f .settings) k)) 20 _ (omega arith) e .0))
 
 pub record Message-inside (f : Said) (k l : ℕ) : Type 0 where
   pub from-low : 1 ≤ k
@@ -74,8 +73,8 @@ pub record Message-inside (f : Said) (k l : ℕ) : Type 0 where
 pub message-inside : (f : Said) (m k l : ℕ) → message-refusal f m k l ≡ 0 → Message-inside f k l
 unfolding message-refusal
 message-inside f m k l e =
-    let from = passed (not (is-column (f .settings) k)) 20 _ (omega arith) e in
-    let to = passed (not (is-column (f .settings) l)) 20 _ (omega arith) (from .1) in
+    let from = line-passed (not (is-column (f .settings) k)) 20 _ (omega arith) e in
+    let to = line-passed (not (is-column (f .settings) l)) 20 _ (omega arith) (from .1) in
     let sender = column-inside (f .settings) k (not-false _ (from .0)) in
     let reader = column-inside (f .settings) l (not-false _ (to .0)) in
     record { from-low = sender .0; from-high = sender .1; to-low = reader .0; to-high = reader .1 }

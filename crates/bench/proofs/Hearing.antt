@@ -1,10 +1,10 @@
 -- What a good column hears in a slot, by the places of the file, and the calls of a round slot by slot: what is heard in a slot and the
 -- calls behind it are one run. Lists of columns and frames that are filled one by one. Assumes nothing.
-use mathlib.Core.Path.{_≡_, refl, sym, _∙_, ap, subst}
-use mathlib.Core.Bool.{Bool, true, false, cond}
-use mathlib.Core.List.{List, [], _∷_, _++_}
+use mathlib.Core.Path.{_≡_, refl, sym, ap, subst}
+use mathlib.Core.Bool.{Bool, true, false}
+use mathlib.Core.List.{List, [], _++_}
 use mathlib.Core.Option.{Option, none, some}
-use Prim.Native.Nat.{ℕ, zero, suc, _+_, _-_, _≤_, _<_}
+use Prim.Native.Nat.{ℕ, suc, _+_, _-_, _≤_, _<_}
 use native.Mathlib.Numerals.{add-one}
 use native.Mathlib.Omega.{arith}
 use lib.Dec.{eqb}
@@ -13,7 +13,7 @@ use lib.Seq.{getD-set-same, getD-set-other}
 use borrow.Author.Tests.{eqb-true, eqb-false, eq-eqb, ne-eqb}
 use Rattle.column.specs.Frame.{header}
 use Rattle.column.specs.Record.{Rec}
-use Rattle.column.specs.Call.{Call, taking, closing, after-take, Leads, Run, no-call, one-call}
+use Rattle.column.specs.Call.{Call, taking, closing, Leads, Run, no-call, one-call}
 use Rattle.bench.specs.Said.{Said, is-good, message-of}
 use Rattle.bench.specs.Group.{bench-run, framed, heard-in, taking-first, calls-from}
 use Rattle.bench.specs.Places.{Stands}

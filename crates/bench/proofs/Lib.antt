@@ -8,3 +8,5 @@ pub mod Wording
 pub mod Hearing
 pub mod Exchanged
 pub mod Output
+pub mod OneRun
+pub mod Sound

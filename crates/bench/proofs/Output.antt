@@ -1,25 +1,26 @@
 -- The output by what a file comes to: a refusal has a number that is not 0, and what is printed of a run depends only on the values and
 -- confidences at its end. The answer stays within the output. Assumes nothing.
-use mathlib.Core.Path.{_≡_, refl, sym, _∙_, ap, ap₂}
-use mathlib.Core.Bool.{Bool, true, false, cond}
-use mathlib.Core.List.{List, [], _++_}
-use Prim.Native.Nat.{ℕ, zero, suc, _≤_}
+use mathlib.Core.Path.{_≡_, refl, sym, _∙_, ap}
+use mathlib.Core.Bool.{Bool, true, false}
+use mathlib.Core.List.{List, _++_}
+use Prim.Native.Nat.{ℕ, _≤_}
 use native.Mathlib.Omega.{arith}
 use lib.Dec.{ltb}
 use lib.ListN.{length, drop, length-append}
 use borrow.Author.Tests.{ltb-true, ltb-false}
 use Rattle.code.specs.Entry.{in-front}
-use Rattle.column.specs.Record.{Rec, Held}
+use Rattle.column.specs.Record.{Rec}
 use Rattle.column.specs.declared.record.Column.{Column}
-use Rattle.bench.specs.Said.{Said, is-good}
+use Rattle.bench.specs.Said.{Said}
 use Rattle.bench.specs.File.{Told, refused, said}
-use Rattle.bench.specs.Listing.{column-line, group-line, column-lines, listing, refused-line}
+use Rattle.bench.specs.Listing.{group-line, listing, refused-line}
 use Rattle.bench.specs.Entry.{listing-room, Printed, Bench-says}
 use Rattle.bench.specs.Places.{Located}
 use Rattle.bench.specs.Reading.{Parsed-as}
 use Rattle.bench.specs.Finished.{record-of}
 use Rattle.bench.specs.Running.{Group-ran}
 use Rattle.bench.specs.declared.places.Places.{Places}
+use Rattle.bench.proofs.Wording.{lines-same}
 
 module _ (file : List ℕ) (answer : ℕ) (p : Places) where
   pub answer-small : (t : Told) → Parsed-as t file answer p → answer ≤ 20
@@ -37,14 +38,7 @@ module _ (file : List ℕ) (answer : ℕ) (p : Places) where
   said-located (refused n) h e = absurd (h .1 (sym (h .0) ∙ e))
   said-located (said f) h e = (f, refl, h .1)
 
--- the same values and confidences
-lines-alike :
-    (f : Said) (held others : ℕ → List Held) (many k : ℕ) → ((j : ℕ) → held j ≡ others j) → column-lines f held many k ≡ column-lines f others many k
-unfolding column-lines
-lines-alike f held others zero k h = refl
-lines-alike f held others (suc n) k h =
-    ap₂ (λ (x : List Held) (rest : List ℕ). cond (is-good f k) (column-line k x) [] ++ rest) (h k) (lines-alike f held others n (suc k) h)
-
+-- the listing of the run
 pub run-printed : (t : Told) (f : Said) (columns : List Column) → t ≡ said f → Group-ran f columns → Printed t (listing f (λ k. record-of columns k .held))
 unfolding Printed listing
 run-printed t f columns e ran =
@@ -53,7 +47,7 @@ run-printed t f columns e ran =
       ran .frames,
       ran .run,
       ap (_++_ (group-line (f .settings)))
-          (lines-alike f (λ k. record-of columns k .held) (λ k. ran .records 4 k .held) (f .settings .n) 1 (λ j. ap (λ (r : Rec). r .held) (sym (ran .last j)))),
+          (lines-same f (λ k. record-of columns k .held) (λ k. ran .records 4 k .held) (f .settings .n) 1 (λ j good. ap (λ (r : Rec). r .held) (sym (ran .last j)))),
     )
 
 -- what the bench answers is never more than the output has

@@ -1,16 +1,16 @@
 -- What a command that is not turned down says, and where its value or check values stand. An own value is one to open with, since every
 -- line of opening was tested; a message of rounds two and three has the size of its round's operand. Assumes nothing.
-use mathlib.Core.Path.{_≡_, refl, sym, _∙_, ap, subst}
-use mathlib.Core.Bool.{Bool, true, false, cond, not, _&&_}
+use mathlib.Core.Path.{_≡_, refl, sym, _∙_, ap}
+use mathlib.Core.Bool.{Bool, true, false, cond}
 use mathlib.Core.List.{List}
 use mathlib.Core.Logic.{_⊎_, inl, inr}
-use Prim.Native.Nat.{ℕ, _+_, _≤_, _<_}
+use Prim.Native.Nat.{ℕ, _+_, _≤_}
 use native.Mathlib.Omega.{arith}
-use lib.Dec.{eqb, leb}
+use lib.Dec.{eqb}
 use lib.ListN.{length, getD, take, drop, length-drop}
 use lib.Seq.{drop-drop, length-take-le}
 use borrow.Author.Tests.{eq-eqb, ne-eqb, le-leb}
-use Rattle.code.specs.Settings.{Settings, settings, settings-refusal, value-size}
+use Rattle.code.specs.Settings.{Settings, settings, settings-refusal}
 use Rattle.column.specs.Value.{Value}
 use Rattle.column.specs.Frame.{operand-size}
 use Rattle.column.specs.Refusal.{number-refusal, size-refusal, blank-refusal, open-refusal}
@@ -18,7 +18,6 @@ use Rattle.column.proofs.Refusal.{first-of-zero}
 use Rattle.column.proofs.Lines.{first-of-later}
 use Rattle.bench.specs.Said.{Said, Message, message, with-own, with-message}
 use Rattle.bench.specs.Command.{command-in, is-known, head-size, body-size, command-size, body-in, form-refusal, message-in, checks-round-refusal, operand-refusal, value-refusal, command-refusal, after-command}
-use Rattle.bench.specs.Places.{Located}
 use Rattle.bench.specs.declared.places.Places.{Places}
 use Rattle.bench.proofs.Faults.{form-fits, own-inside, Message-inside, message-inside, heading-round, round-inside, known-cases, body-own, operand-own, operand-message, own-fits}
 
@@ -63,16 +62,16 @@ pub record Own-read (file : List ℕ) (p : Places) (f : Said) (at k : ℕ) (v : 
   pub after : after-command f (drop at file) ≡ with-own f k v
 
 pub own-read :
-    (file : List ℕ) (p : Places) (f : Said) (at : ℕ) → Located file p f → at ≤ length file → command-refusal f (drop at file) ≡ 0 →
+    (file : List ℕ) (p : Places) (f : Said) (at : ℕ) → f .settings ≡ settings (p .n) (p .t) (p .w) → settings-refusal (f .settings) ≡ 0 → at ≤ length file → command-refusal f (drop at file) ≡ 0 →
     command-in (drop at file) ≡ 4 → Own-read file p f at (getD (drop at file) 1 0) (body-in (f .settings) (drop at file))
 unfolding after-command value-refusal
-own-read file p f at h inside e own =
+own-read file p f at same fine inside e own =
     let bs = drop at file in
     let lines = passed f bs e in
     let column = own-inside f _ (sym (operand-own f bs own) ∙ lines .operand) in
-    let n : f .settings .n ≡ p .n = columns f p (h .settings) in
-    let w : f .settings .w ≡ p .w = bytes f p (h .settings) in
-    let fits = own-fits f file at p (h .settings) inside (form-fits f bs (lines .form) .1) own in
+    let n : f .settings .n ≡ p .n = columns f p same in
+    let w : f .settings .w ≡ p .w = bytes f p same in
+    let fits = own-fits f file at p same inside (form-fits f bs (lines .form) .1) own in
     let value = body-own (f .settings) file at (p .w) w own in
     let long : length (body-in (f .settings) bs) ≡ p .w =
     ap length value ∙ length-take-le (p .w) (drop (at + 2) file) (omega (arith, length-drop (at + 2) file, fits)) in
@@ -82,7 +81,7 @@ own-read file p f at h inside e own =
       high = omega (arith, column .1, n);
       size = omega (arith, fits);
       value = value;
-      opens = opens-with (f .settings) _ _ (h .fine) (column .0) (column .1) (long ∙ sym w) filled;
+      opens = opens-with (f .settings) _ _ fine (column .0) (column .1) (long ∙ sym w) filled;
       after = rw (eq-eqb (command-in bs) 4 own) refl;
     }
 

@@ -1,13 +1,13 @@
 -- Places read as what was said: whether bytes stand at a place is whether it is not 0, and with one place more in its slot of the list all
 -- other places are as before. The slots of two messages are the same only if round and columns are. Assumes nothing.
-use mathlib.Core.Path.{_≡_, refl, sym, _∙_, ap, subst}
+use mathlib.Core.Path.{_≡_, refl, sym, _∙_, ap}
 use mathlib.Core.Bool.{Bool, true, false, cond, not, _&&_}
 use mathlib.Core.List.{List, _∷_}
 use mathlib.Core.Option.{Option, none, some}
 use Prim.Native.Nat.{ℕ, zero, suc, _+_, _*_, _-_, _≤_, _<_}
 use native.Mathlib.Omega.{arith}
 use lib.Dec.{eqb}
-use lib.ListN.{length, getD, set, take, drop, replicate, List·getD-eq-default}
+use lib.ListN.{length, getD, set, replicate}
 use lib.Seq.{getD-set-same, getD-set-other}
 use borrow.Author.Tests.{eqb-true, eqb-false, eq-eqb, ne-eqb}
 use Rattle.code.proofs.Bytes.{and-split}
@@ -17,7 +17,7 @@ use Rattle.column.specs.Refusal.{open-refusal}
 use Rattle.column.specs.Record.{is-taken}
 use Rattle.column.proofs.Bool.{true-not-false}
 use Rattle.bench.specs.declared.places.Places.{Places}
-use Rattle.bench.specs.Said.{Said, Own, Message, message, own-of, message-of}
+use Rattle.bench.specs.Said.{Said, Own, Message, own-of, message-of}
 use Rattle.bench.specs.Places.{Stands, message-index, Located}
 
 pub stands-taken : (file : List ℕ) (size at : ℕ) (x : Option (List ℕ)) → Stands file size at x → not (eqb at 0) ≡ is-taken x

@@ -1,6 +1,6 @@
 -- A file command by command. One step of the commands' definition is one command: turned down, the end, or the rest behind it. No
 -- bytes left is cut short, however many commands may still come. No refusal has a number above 20. Assumes nothing.
-use mathlib.Core.Path.{_≡_, refl, sym, _∙_, ap}
+use mathlib.Core.Path.{_≡_, refl}
 use mathlib.Core.Bool.{Bool, true, false, cond, not, _&&_, _||_}
 use mathlib.Core.List.{List, []}
 use Prim.Native.Nat.{ℕ, zero, suc, _+_, _-_, _*_, _≤_, _<_}
@@ -15,8 +15,9 @@ use Rattle.column.specs.Record.{is-taken}
 use Rattle.column.proofs.Bool.{or-false}
 use Rattle.column.proofs.Refusal.{first-of-zero}
 use Rattle.bench.specs.Said.{Said, only-settings, is-good, message-of}
-use Rattle.bench.specs.Command.{command-in, is-known, command-size, body-in, no-message, form-refusal, message-in, is-column, column-refusal, message-refusal, checks-round-refusal, operand-refusal, value-refusal, command-refusal, after-command}
+use Rattle.bench.specs.Command.{command-in, is-known, command-size, body-in, no-message, form-refusal, is-column, column-refusal, message-refusal, checks-round-refusal, operand-refusal, value-refusal, command-refusal, after-command}
 use Rattle.bench.specs.File.{refused, said, longest, group-in, group-refusal, commands-from, commands-told, file-told}
+use Rattle.bench.proofs.Faults.{line-passed}
 
 -- one command
 module _ (many : ℕ) (f : Said) (bs : List ℕ) (some : 1 ≤ many) where
@@ -113,15 +114,11 @@ pub group-le : (bs : List ℕ) → group-refusal bs ≤ 20
 unfolding group-refusal
 group-le bs = first-of-le _ _ 20 (cond-le (not (eqb (command-in bs) 1) || ltb (length bs) 4) 19 0 20 (omega arith) (omega arith)) (settings-le (group-in bs))
 
-passed : (q : Bool) → _≡_ {A = ℕ} (cond q 19 0) 0 → q ≡ false
-passed false e = refl
-passed true e = absurd (omega arith)
-
 pub group-fits : (bs : List ℕ) → group-refusal bs ≡ 0 → (4 ≤ length bs) × (settings-refusal (group-in bs) ≡ 0)
 unfolding group-refusal
 group-fits bs e =
     let lines = first-of-zero _ _ e in
-    (ltb-false _ _ (or-false (not (eqb (command-in bs) 1)) _ (passed _ (lines .0)) .1), lines .1)
+    (ltb-false _ _ (or-false (not (eqb (command-in bs) 1)) _ (line-passed _ 19 0 (omega arith) (lines .0) .0) .1), lines .1)
 
 -- a whole file
 pub told-long : (bs : List ℕ) → 65536 < length bs → file-told bs ≡ refused 19

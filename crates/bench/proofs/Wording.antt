@@ -1,6 +1,6 @@
 -- The texts of the listing piece by piece, as they are put, and how long they are at most: 31 bytes for a value of eight, 36 for a column's
 -- holdings, 1,155 for a line. Assumes nothing.
-use mathlib.Core.Path.{_≡_, refl, sym, _∙_, ap}
+use mathlib.Core.Path.{_≡_, refl, ap, ap₂}
 use mathlib.Core.Bool.{Bool, true, false, cond}
 use mathlib.Core.List.{List, [], _∷_, _++_}
 use Prim.Native.Nat.{ℕ, zero, suc, _+_, _*_, _-_, _≤_, _<_}
@@ -137,3 +137,15 @@ lines-next f held n k l h =
 pub lines-none : (f : Said) (held : ℕ → List Held) (many k : ℕ) → many ≡ 0 → column-lines f held many k ≡ []
 unfolding column-lines
 lines-none f held many k e = rw e refl
+
+-- they depend on what the good columns hold
+pub lines-same :
+    (f : Said) (held others : ℕ → List Held) (many k : ℕ) → ((j : ℕ) → is-good f j ≡ true → held j ≡ others j) →
+    column-lines f held many k ≡ column-lines f others many k
+unfolding column-lines
+lines-same f held others zero k h = refl
+lines-same f held others (suc n) k h = ap₂ _++_ (go (is-good f k) refl) (lines-same f held others n (suc k) h)
+  where
+    go : (q : Bool) → is-good f k ≡ q → cond q (column-line k (held k)) [] ≡ cond q (column-line k (others k)) []
+    go true e = ap (column-line k) (h k e)
+    go false e = refl

@@ -6,7 +6,6 @@ use Prim.Native.Nat.{ℕ, _+_, _-_}
 use lib.Dec.{ltb, leb, eqb}
 use lib.ListN.{length, getD, take, drop}
 use Rattle.code.specs.Settings.{Settings}
-use Rattle.column.specs.Value.{Value}
 use Rattle.column.specs.Frame.{operand-size}
 use Rattle.column.specs.Record.{is-taken}
 use Rattle.column.specs.Refusal.{first-of, blank-refusal}

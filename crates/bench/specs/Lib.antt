@@ -4,6 +4,7 @@ pub mod File
 pub mod Group
 pub mod Listing
 pub mod Entry
+pub mod Promise
 pub mod Printing
 pub mod Places
 pub mod Reading

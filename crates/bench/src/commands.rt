@@ -14,8 +14,7 @@ use crate::places::Places;
 
 // The byte at a place; 0 past the end.
 pub fn byte_at(file: &[u8], at: usize) -> u32
-    ensures { λ r. ⌜ r ≡ getD (now (file .entry)) at 0 ⌝ }
-    ensures small { λ r. ⌜ r < 256 ⌝ }
+    ensures { λ r. ⌜ (r ≡ getD (now (file .entry)) at 0) × (r < 256) ⌝ }
 {
     if at < file.len() {
         return file[at] as u32;

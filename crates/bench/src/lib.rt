@@ -4,6 +4,7 @@ mod group;
 mod lines;
 mod places;
 mod printing;
+mod reader;
 mod reading;
 
 ghost use Rattle.bench.specs.Entry.{Bench-says};

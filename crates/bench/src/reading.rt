@@ -9,6 +9,7 @@ ghost use Rattle.bench.specs.Reading.{Parsed-as};
 use crate::commands;
 use crate::places;
 use crate::places::Places;
+use crate::reader;
 
 // What a file comes to: the number by which it is turned down, or 0 and the places of all that it says.
 pub struct Parsed {
@@ -54,7 +55,7 @@ fn commands_told(file: &[u8], group: Places) -> Parsed
         if refusal != 0 {
             return refused(refusal);
         }
-        let command = commands::byte_at(file, at);
+        let command = reader::command_at(file, at);
         if command == 15 {
             return Parsed { answer: 0, places };
         }

@@ -1,8 +1,7 @@
 -- `bench` meets its contract: too little room, a refusal, or the listing of the run. Assumes nothing.
-use mathlib.Core.Path.{_≡_, refl, sym, _∙_}
+use mathlib.Core.Path.{refl, _∙_}
 use native.Mathlib.Omega.{arith}
 use borrow.Author.Needs.{needs}
-use lib.ListN.{length}
 use Rattle.bench.specs.Entry.{listing-room}
 use Rattle.bench.specs.Places.{Places-of}
 use Rattle.bench.proofs.Text.{put-front}

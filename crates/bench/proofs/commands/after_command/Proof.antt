@@ -1,5 +1,5 @@
 -- `after_command` meets its contract: the own value or the message that the command says, at the place behind its head. Assumes nothing.
-use mathlib.Core.Path.{_≡_, refl, sym, _∙_, ap, subst}
+use mathlib.Core.Path.{_≡_, sym, _∙_, ap, subst}
 use Prim.Native.Nat.{ℕ, _+_}
 use native.Mathlib.Omega.{arith}
 use borrow.Author.Needs.{needs}
@@ -40,7 +40,7 @@ with-own-requires c κs =
     let s = c .before .before .before .before .before in
     let a = s .args in
     let g = s .pre .0 in
-    let r = own-read _ _ _ (a .at) (g .1) (s .pre .1) (g .2) (command (c .before .before .before) ∙ c .before .if1 .taken) in
+    let r = own-read _ (a .places) _ (a .at) (g .1 .settings) (g .1 .fine) (s .pre .1) (g .2) (command (c .before .before .before) ∙ c .before .if1 .taken) in
     let k = c .byte-at2 .ensures .0 ∙ sym (byte-in (a .file .now) (a .at) 1) in
     omega (arith, k, r .low, r .high, small _ _ _ (g .1) .few-columns)
 
@@ -50,7 +50,7 @@ returns c f h e =
     let s = c .before .before .before .before .before .before in
     let a = s .args in
     let four = command (c .before .before .before .before) ∙ c .before .before .if1 .taken in
-    let r = own-read _ _ _ (a .at) h (s .pre .1) e four in
+    let r = own-read _ (a .places) _ (a .at) (h .settings) (h .fine) (s .pre .1) e four in
     let k = c .before .byte-at2 .ensures .0 ∙ sym (byte-in (a .file .now) (a .at) 1) in
     let body : a .at + c .before .before .before .head-size .result ≡ a .at + 2 =
     ap (λ (i : ℕ). a .at + i) (c .before .before .before .head-size .ensures .0 ∙ ap head-size (c .before .before .if1 .taken)) in

@@ -1,8 +1,8 @@
 -- `byte_at` meets its contract. Assumes nothing.
-use mathlib.Core.Path.{_≡_, refl, sym, _∙_, ap}
+use mathlib.Core.Path.{refl, sym}
 use native.Mathlib.Omega.{arith}
 use borrow.Author.Needs.{needs}
-use lib.ListN.{length, getD, List·getD-eq-default}
+use lib.ListN.{List·getD-eq-default}
 use Rattle.bench.proofs.commands.byte_at.Statement.{statement}
 use Rattle.bench.proofs.commands.byte_at.Tie as tie
 

@@ -1,5 +1,4 @@
 -- `checks_round_refusal` meets its contract. Assumes nothing.
-use mathlib.Core.Path.{_≡_, refl, sym, _∙_, ap}
 use borrow.Author.Tests.{eq-eqb, ne-eqb}
 use Rattle.bench.specs.Command.{checks-round-refusal}
 use Rattle.bench.proofs.commands.checks_round_refusal.Statement.{statement}

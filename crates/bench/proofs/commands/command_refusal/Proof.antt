@@ -1,15 +1,13 @@
 -- `command_refusal` meets its contract: the first of its lines that applies. Assumes nothing.
-use mathlib.Core.Path.{_≡_, refl, sym, _∙_, ap}
-use Prim.Native.Nat.{_+_, _≤_}
+use mathlib.Core.Path.{_≡_, sym, _∙_, ap}
 use native.Mathlib.Omega.{arith}
 use lib.ListN.{drop}
-use lib.ListN.{length}
 use Rattle.code.specs.Settings.{settings}
 use Rattle.column.proofs.Lines.{first-of-here, first-of-later}
 use Rattle.bench.specs.Places.{Places-of}
 use Rattle.bench.specs.Said.{Said}
 use Rattle.bench.specs.Places.{Located}
-use Rattle.bench.specs.Command.{command-in, form-refusal, command-refusal}
+use Rattle.bench.specs.Command.{form-refusal, command-refusal}
 use Rattle.bench.proofs.Faults.{form-fits, own-fits}
 use Rattle.bench.proofs.Standing.{small}
 use Rattle.bench.proofs.commands.command_refusal.Statement.{statement}

@@ -1,5 +1,4 @@
 -- `command_size` meets its contract: head and body. Assumes nothing.
-use mathlib.Core.Path.{_≡_, refl, sym, _∙_, ap}
 use native.Mathlib.Omega.{arith}
 use borrow.Author.Needs.{needs}
 use Rattle.bench.specs.Command.{command-size}

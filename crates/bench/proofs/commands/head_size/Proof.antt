@@ -1,5 +1,4 @@
 -- `head_size` meets its contract, command by command. Assumes nothing.
-use mathlib.Core.Path.{_≡_, refl, sym, _∙_, ap}
 use native.Mathlib.Omega.{arith}
 use borrow.Author.Tests.{eq-eqb, ne-eqb}
 use Rattle.bench.specs.Command.{head-size}

@@ -1,7 +1,6 @@
 -- `is_column` meets its contract. Assumes nothing.
-use mathlib.Core.Path.{_≡_, refl, sym, _∙_, ap}
 use borrow.Author.Tests.{le-leb, lt-leb}
-use Rattle.code.specs.Settings.{settings, check-count, value-size}
+use Rattle.code.specs.Settings.{settings}
 use Rattle.bench.specs.Command.{is-column}
 use Rattle.bench.proofs.commands.is_column.Statement.{statement}
 use Rattle.bench.proofs.commands.is_column.Tie as tie

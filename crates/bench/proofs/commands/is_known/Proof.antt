@@ -1,5 +1,4 @@
 -- `is_known` meets its contract, command by command. Assumes nothing.
-use mathlib.Core.Path.{_≡_, refl, sym, _∙_, ap}
 use borrow.Author.Tests.{eq-eqb, ne-eqb}
 use Rattle.bench.specs.Command.{is-known}
 use Rattle.bench.proofs.commands.is_known.Statement.{statement}

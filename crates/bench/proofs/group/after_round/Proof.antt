@@ -1,10 +1,8 @@
 -- `after_round` meets its contract: slot by slot, the calls that are left make the whole round's. Assumes nothing.
-use mathlib.Core.Path.{_≡_, refl, sym, _∙_, ap, subst}
-use mathlib.Core.List.{List}
-use Prim.Native.Nat.{ℕ, _+_, _-_, _≤_, _<_}
+use mathlib.Core.Path.{_≡_, refl, sym, subst}
+use Prim.Native.Nat.{ℕ, _+_, _-_, _≤_}
 use native.Mathlib.Omega.{arith}
 use borrow.Author.Needs.{needs}
-use lib.ListN.{length}
 use Rattle.column.specs.Record.{Rec}
 use Rattle.column.specs.Call.{Run}
 use Rattle.column.specs.View.{view}

@@ -1,13 +1,12 @@
 -- `all_sent` meets its contract: frame by frame. Assumes nothing.
-use mathlib.Core.Path.{_≡_, refl, sym, _∙_, ap, subst}
-use mathlib.Core.List.{List}
+use mathlib.Core.Path.{_≡_, refl}
 use Prim.Native.Nat.{ℕ, _+_, _-_, _≤_, _<_}
 use native.Mathlib.Omega.{arith}
 use borrow.Author.Needs.{needs}
-use lib.ListN.{length, getD, length-set}
+use lib.ListN.{length, length-set}
 use Rattle.column.specs.Refusal.{send-refusal}
 use Rattle.column.specs.Call.{Frame-of}
-use Rattle.column.specs.View.{settings-of, view}
+use Rattle.column.specs.View.{view}
 use Rattle.bench.specs.Finished.{record-of}
 use Rattle.bench.specs.Running.{frame-past, frame-bytes, frame-at}
 use Rattle.bench.specs.declared.group.Frame.{Frame}

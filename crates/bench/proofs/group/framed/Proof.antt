@@ -1,13 +1,12 @@
 -- `framed` meets its contract: the header, and the operand behind it. Assumes nothing.
-use mathlib.Core.Path.{_≡_, refl, sym, _∙_, ap, subst}
-use mathlib.Core.List.{List, _++_}
-use Prim.Native.Nat.{ℕ, _+_, _*_, _-_, _≤_, _<_}
+use mathlib.Core.Path.{_≡_, _∙_, ap}
+use mathlib.Core.List.{_++_}
+use Prim.Native.Nat.{ℕ, _+_, _-_}
 use native.Mathlib.Omega.{arith}
 use borrow.Author.Needs.{needs}
-use lib.ListN.{length, take, length-append}
+use lib.ListN.{length, take}
 use Rattle.column.specs.Frame.{command, header}
 use Rattle.bench.specs.Group.{bench-run}
-use Rattle.bench.specs.Printing.{Put}
 use Rattle.bench.proofs.Text.{puts, put-taken}
 use Rattle.bench.proofs.group.framed.Statement.{statement}
 use Rattle.bench.proofs.group.framed.Tie as tie

@@ -1,19 +1,18 @@
 -- `opened_at` meets its contract: an own value stands at a place that is not 0, and is one to open with. Assumes nothing.
-use mathlib.Core.Path.{_≡_, refl, sym, _∙_, ap, ap₂}
+use mathlib.Core.Path.{_≡_, sym, _∙_, ap, ap₂}
 use mathlib.Core.List.{List}
 use mathlib.Core.Option.{Option, some}
-use Prim.Native.Nat.{ℕ, _+_, _*_, _-_, _≤_, _<_}
+use Prim.Native.Nat.{ℕ, _+_, _-_}
 use native.Mathlib.Omega.{arith}
 use borrow.Author.Needs.{needs}
-use lib.ListN.{length, take, drop}
+use lib.ListN.{take, drop}
 use Rattle.code.specs.Settings.{Settings, settings}
 use Rattle.column.specs.Record.{opened}
 use Rattle.column.specs.Refusal.{open-refusal}
-use Rattle.bench.specs.Said.{Said, own-of}
 use Rattle.bench.specs.Group.{bench-run}
-use Rattle.bench.specs.Places.{Stands, Places-of}
+use Rattle.bench.specs.Places.{Places-of}
 use Rattle.bench.proofs.Hearing.{stands-inside, stands-none, stands-some}
-use Rattle.bench.proofs.Standing.{small, none-some}
+use Rattle.bench.proofs.Standing.{none-some}
 use Rattle.bench.proofs.group.opened_at.Statement.{statement}
 use Rattle.bench.proofs.group.opened_at.Tie as tie
 

@@ -1,7 +1,5 @@
 -- `sent` meets its contract: what `send` wrote in front of the array. Assumes nothing.
-use mathlib.Core.Path.{_≡_, refl, sym, _∙_, ap, subst}
-use mathlib.Core.List.{List}
-use Prim.Native.Nat.{ℕ}
+use mathlib.Core.Path.{_∙_, ap}
 use borrow.Author.Needs.{needs}
 use lib.ListN.{take}
 use Rattle.column.specs.View.{settings-of, view}

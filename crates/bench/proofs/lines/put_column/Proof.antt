@@ -1,15 +1,10 @@
 -- `put_column` meets its contract: the line of what the result answers, or nothing. Assumes nothing.
-use mathlib.Core.Path.{_≡_, refl, sym, _∙_, ap}
-use mathlib.Core.Bool.{true, false}
-use mathlib.Core.List.{List}
-use Prim.Native.Nat.{ℕ}
+use mathlib.Core.Path.{sym, _∙_, ap}
 use native.Mathlib.Omega.{arith}
 use borrow.Author.Tests.{not-true, not-false}
 use borrow.Author.Needs.{needs}
-use lib.ListN.{length}
 use Rattle.code.specs.Settings.{settings, Settings}
-use Rattle.column.specs.Record.{Held}
-use Rattle.column.specs.View.{held-in, settings-of, view}
+use Rattle.column.specs.View.{held-in}
 use Rattle.bench.specs.Listing.{column-line}
 use Rattle.bench.specs.Said.{is-good}
 use Rattle.bench.proofs.Text.{put-nothing, put-alike}

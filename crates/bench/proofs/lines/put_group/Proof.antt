@@ -1,10 +1,9 @@
 -- `put_group` meets its contract: the word, the three settings, the line feed. Assumes nothing.
-use mathlib.Core.Path.{_≡_, refl, sym, _∙_, ap}
 use mathlib.Core.List.{append-assoc}
 use native.Mathlib.Omega.{arith}
 use borrow.Author.Needs.{needs}
 use Rattle.code.specs.Settings.{settings}
-use Rattle.bench.specs.Listing.{decimal, group-line}
+use Rattle.bench.specs.Listing.{group-line}
 use Rattle.bench.proofs.Decimal.{one-short, two-short}
 use Rattle.bench.proofs.Text.{puts, put-alike}
 use Rattle.bench.proofs.lines.put_group.Statement.{statement}

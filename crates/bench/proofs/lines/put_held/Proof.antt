@@ -1,12 +1,11 @@
 -- `put_held` meets its contract: the space, the value, the slash and the confidence. Assumes nothing.
-use mathlib.Core.Path.{_≡_, refl, sym, _∙_, ap}
-use mathlib.Core.List.{append-assoc, _∷_}
+use mathlib.Core.List.{_∷_}
 use native.Mathlib.Omega.{arith}
 use borrow.Author.Needs.{needs}
-use lib.ListN.{length, length-append}
+use lib.ListN.{length-append}
 use Rattle.column.specs.Record.{held-as}
 use Rattle.bench.specs.Listing.{value-text, decimal, held-text}
-use Rattle.bench.proofs.Text.{puts, put-alike}
+use Rattle.bench.proofs.Text.{puts}
 use Rattle.bench.proofs.lines.put_held.Statement.{statement}
 use Rattle.bench.proofs.lines.put_held.Tie as tie
 

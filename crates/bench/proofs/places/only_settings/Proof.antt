@@ -1,6 +1,5 @@
 -- `only_settings` meets its contract: no place is kept yet. Assumes nothing.
-use mathlib.Core.Path.{_≡_, refl}
-use mathlib.Core.Option.{none, some}
+use mathlib.Core.Path.{refl}
 use Prim.Native.Nat.{_-_}
 use Rattle.bench.specs.Said.{only-settings, own-of, message-of}
 use Rattle.bench.specs.Command.{no-message}

@@ -1,8 +1,7 @@
 -- `put_byte` meets its contract: one byte is stored. Assumes nothing.
-use mathlib.Core.Path.{_≡_, refl}
+use mathlib.Core.Path.{refl}
 use native.Mathlib.Omega.{arith}
 use borrow.Author.Needs.{needs}
-use denote.Ref.{now}
 use Rattle.bench.proofs.Text.{put-one}
 use Rattle.bench.proofs.printing.put_byte.Statement.{statement}
 use Rattle.bench.proofs.printing.put_byte.Tie as tie

@@ -1,5 +1,5 @@
 -- `put_decimal` meets its contract: the digits one behind the other, as many as the number has. Assumes nothing.
-use mathlib.Core.Path.{_≡_, sym}
+use mathlib.Core.Path.{sym}
 use native.Mathlib.Omega.{arith}
 use borrow.Author.Needs.{needs}
 use Rattle.bench.specs.Listing.{digit}

@@ -1,10 +1,10 @@
 -- `commands_told` meets its contract. At each turn the file comes to what the commands from the place on come to, after what was said so
 -- far; no more of them can come than there are bytes left. Assumes nothing.
-use mathlib.Core.Path.{_≡_, refl, sym, _∙_, ap, subst}
-use mathlib.Core.List.{List, []}
-use Prim.Native.Nat.{ℕ, _+_, _-_, _≤_, _<_}
+use mathlib.Core.Path.{_≡_, refl, sym, _∙_, ap}
+use mathlib.Core.List.{List}
+use Prim.Native.Nat.{ℕ, _+_, _-_, _≤_}
 use native.Mathlib.Omega.{arith}
-use lib.ListN.{length, drop, length-drop, drop-of-length-le}
+use lib.ListN.{length, drop, drop-of-length-le}
 use lib.Seq.{drop-drop}
 use borrow.Author.Needs.{needs}
 use Rattle.code.specs.Settings.{Settings}
@@ -62,18 +62,18 @@ returns c =
     sym (i .rest) ∙ step-refused (i .many) (i .told) _ (omega (arith, i .enough)) (λ z. c .before .if1 .taken (answer ∙ z)) in
     rw told (c .refused .ensures ∙ answer, (λ z. c .before .if1 .taken (answer ∙ z)), command-le (i .told) _)
 
-byte-at-requires : tie.Need-byte-at-requires Inv-loop μ-loop
-byte-at-requires c κs = search needs
+command-at-requires : tie.Need-command-at-requires Inv-loop μ-loop
+command-at-requires c κs = search needs
 
 -- the command is the byte at the place
 command :
-    (c : tie.After-byte-at Inv-loop μ-loop) →
-    command-in (drop (c .before .before .before .before .loop .at) (c .before .before .before .before .before .before .args .file .now)) ≡ c .byte-at .result
-command c = command-at _ (c .before .before .before .before .loop .at) ∙ sym (c .byte-at .ensures .0)
+    (c : tie.After-command-at Inv-loop μ-loop) →
+    command-in (drop (c .before .before .before .before .loop .at) (c .before .before .before .before .before .before .args .file .now)) ≡ c .command-at .result
+command c = command-at _ (c .before .before .before .before .loop .at) ∙ sym (c .command-at .ensures)
 
 -- it is not turned down
 fine :
-    (c : tie.After-byte-at Inv-loop μ-loop) →
+    (c : tie.After-command-at Inv-loop μ-loop) →
     command-refusal (c .before .before .before .before .loop .inv .told) (drop (c .before .before .before .before .loop .at) (c .before .before .before .before .before .before .args .file .now)) ≡ 0
 fine c =
     let i = c .before .before .before .before .loop .inv in
@@ -164,7 +164,7 @@ commands-told-spec =
     command-refusal-requires
     refused-requires
     returns
-    byte-at-requires
+    command-at-requires
     returns-2
     command-size-requires
     after-command-requires

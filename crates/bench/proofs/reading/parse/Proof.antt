@@ -1,11 +1,10 @@
 -- `parse` meets its contract: too long, the group command, then the commands behind it. Assumes nothing.
-use mathlib.Core.Path.{_≡_, refl, sym, _∙_, ap}
+use mathlib.Core.Path.{_≡_, sym, _∙_}
 use native.Mathlib.Omega.{arith}
 use borrow.Author.Needs.{needs}
-use Rattle.code.specs.Settings.{Settings, settings, settings-refusal}
+use Rattle.code.specs.Settings.{settings}
 use Rattle.bench.specs.Said.{only-settings}
 use Rattle.bench.specs.File.{group-in}
-use Rattle.bench.specs.Places.{Located}
 use Rattle.bench.specs.Reading.{Parsed-as}
 use Rattle.bench.proofs.Steps.{group-le, group-fits, told-long, told-group, told-commands}
 use Rattle.bench.proofs.reading.parse.Statement.{statement}
