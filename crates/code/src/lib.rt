@@ -12,8 +12,7 @@ ghost use Rattle.code.specs.Settings.{settings, settings-refusal};
 ghost use Rattle.code.specs.Entry.{Checks-says, Checks-put};
 
 // The check values of a vector of n values, in the first 2t·w bytes of the output: 0, or the refusal 1, 2, 3 or 18.
-#[no_mangle]
-pub extern "C" fn check_values(n: u32, t: u32, w: u32, vector: &[u8], output: &mut [u8]) -> u32
+pub fn check_values(n: u32, t: u32, w: u32, vector: &[u8], output: &mut [u8]) -> u32
     ensures { λ r. ⌜ Checks-says n t w (now (vector .entry)) r (now (output .entry)) (now (output .exit)) ⌝ }
 {
     let refusal = settings::settings_refusal(n, t, w);

@@ -17,15 +17,7 @@ const NONE: u32 = 256;
 
 // The vector repaired by the check values received, in the first n·w bytes of the output: 0, or 256 for "none", or the refusal
 // 1, 2, 3 or 18.
-#[no_mangle]
-pub extern "C" fn repair(
-    n: u32,
-    t: u32,
-    w: u32,
-    vector: &[u8],
-    checks: &[u8],
-    output: &mut [u8],
-) -> u32
+pub fn repair(n: u32, t: u32, w: u32, vector: &[u8], checks: &[u8], output: &mut [u8]) -> u32
     ensures { λ r. ⌜ Repair-says n t w (now (vector .entry)) (now (checks .entry)) r (now (output .entry)) (now (output .exit)) ⌝ }
 {
     let refusal = refused(n, t, w, vector.len(), checks.len(), output.len());
@@ -47,8 +39,7 @@ pub extern "C" fn repair(
 }
 
 // The same by the difference to check values worked out before, the vector's own: checks that agree cost a comparison.
-#[no_mangle]
-pub extern "C" fn repair_by(
+pub fn repair_by(
     n: u32,
     t: u32,
     w: u32,
