@@ -3,10 +3,9 @@
 use crate::RUN;
 use crate::archive::{self, Column};
 use crate::chance::Chance;
-use crate::compare::{model, same, taken};
+use crate::compare::{same, taken};
 use crate::frames::{command_of, frame, frame_length};
 use crate::record::EMPTY;
-use crate::refusals::Call;
 
 /// The records of rounds 1 to 4 of one exchange, each with the frames of all but two columns taken.
 pub fn rounds(n: u32, t: u32, w: u32, number: u32, left_out: [u32; 2]) -> Vec<Column> {
@@ -40,8 +39,8 @@ pub fn rounds(n: u32, t: u32, w: u32, number: u32, left_out: [u32; 2]) -> Vec<Co
     records
 }
 
-/// Every length and command, in every round and slot; where the table looks at the frame, also with either sender byte, with the right and
-/// another run, and as the sender's first and second frame of the round.
+/// Every length and command, in every round and slot, with either sender byte, with the right and another run, and as the sender's
+/// first and second frame of the round.
 pub fn all_frames(n: u32, t: u32, w: u32) -> u64 {
     let number = (n + 1) / 2;
     let sender = if number == n { 1 } else { n };
@@ -49,20 +48,12 @@ pub fn all_frames(n: u32, t: u32, w: u32) -> u64 {
     let mut compared = 0;
     for record in rounds(n, t, w, number, [sender, other]) {
         for slot in [sender, other, number, 0, n + 1] {
-            let looks_at_frame = model(Call::Take, &record, slot, &[], 0) > 8;
-            let choices: &[bool] = if looks_at_frame {
-                &[true, false]
-            } else {
-                &[true]
-            };
-            for first in choices {
+            for first in [true, false] {
                 let mut column = record;
                 column.slots[sender as usize - 1].taken = (!first).into();
-                for right_sender in choices {
-                    for right_run in choices {
-                        let byte = if *right_sender { sender } else { other } as u8;
-                        let run = if *right_run { RUN } else { RUN ^ 0x0100 };
-                        compared += all_lengths(&column, slot, byte, run);
+                for byte in [sender, other] {
+                    for run in [RUN, RUN ^ 0x0100] {
+                        compared += all_lengths(&column, slot, byte as u8, run);
                     }
                 }
             }
