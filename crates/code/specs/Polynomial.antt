@@ -1,7 +1,6 @@
 -- Polynomials over the field, the generator, and remainders by it. Assumes nothing: these are definitions.
 -- A polynomial is the list of its coefficients, lowest power first; zeros at its end change nothing.
 use mathlib.Core.Path.{_≡_}
-use mathlib.Core.Bool.{Bool, true}
 use mathlib.Core.List.{List, [], _∷_}
 use Prim.Native.Nat.{ℕ, zero, suc, _+_, _<_}
 use lib.ListN.{length, getD}

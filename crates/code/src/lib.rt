@@ -2,7 +2,7 @@
 pub mod lanes;
 pub mod planes;
 mod register;
-mod roots;
+pub mod roots;
 pub mod settings;
 
 ghost use mathlib.Core.Path.{_≡_};

@@ -1,18 +1,14 @@
 -- The lines of the table in their order: the first that refuses is the answer, however the lines are grouped; and what a refusal
 -- leaves. Assumes nothing.
 use mathlib.Core.Path.{_≡_, refl, sym, _∙_}
-use mathlib.Core.Bool.{Bool, true, false, cond, _&&_, _||_, not}
+use mathlib.Core.Bool.{Bool, true, false, cond}
 use mathlib.Core.List.{List}
-use Prim.Native.Nat.{ℕ, _+_, _*_, _≤_}
-use native.Mathlib.Omega.{arith}
-use lib.Dec.{eqb, ltb, leb}
-use lib.ListN.{length}
+use Prim.Native.Nat.{ℕ}
+use lib.Dec.{eqb, ltb}
 use borrow.Author.Tests.{ne-eqb}
-use Rattle.code.specs.Settings.{Settings, settings-refusal}
-use Rattle.column.specs.Value.{is-blank}
-use Rattle.column.specs.Frame.{frame-size, round-in, sender-in, run-in}
+use Rattle.column.specs.Frame.{frame-size}
 use Rattle.column.specs.Record.{Rec, taken-at, is-taken, raised, with-refused}
-use Rattle.column.specs.Refusal.{first-of, number-refusal, blank-refusal, round-refusal, slot-refusal, frame-refusal, record-refusal, take-refusal, send-refusal, close-refusal, counts-up}
+use Rattle.column.specs.Refusal.{first-of, round-refusal, slot-refusal, frame-refusal, record-refusal, take-refusal, send-refusal, close-refusal, counts-up}
 use Rattle.column.specs.Call.{after-take}
 use Rattle.column.specs.Entry.{after-refusal, with-count}
 use Rattle.column.specs.View.{view}

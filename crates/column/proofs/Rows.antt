@@ -9,11 +9,11 @@ use mathlib.Core.Option.{Option, none, some}
 use Prim.Native.Nat.{ℕ, zero, suc, _-_, _<_, _≤_}
 use native.Mathlib.Omega.{arith}
 use lib.Dec.{eqb}
-use lib.ListN.{length, getD, drop, length-replicate, getD-replicate}
+use lib.ListN.{length, getD, length-replicate, getD-replicate}
 use lib.Seq.{ext-getD}
 use borrow.Author.Tests.{eqb-true, eqb-false}
 use Rattle.code.specs.Settings.{Settings, settings-refusal, check-count, value-size}
-use Rattle.code.specs.Vector.{plane, is-vector, has-checks, cut, differ-values}
+use Rattle.code.specs.Vector.{plane, is-vector, has-checks, differ-values}
 use Rattle.code.specs.Repair.{Repaired, No-repair}
 use Rattle.code.specs.Entry.{values-in}
 use Rattle.code.specs.Promise.{One-near, Repairs}

@@ -2,17 +2,16 @@
 use mathlib.Core.Path.{_≡_}
 use mathlib.Core.Bool.{Bool, true, false, _&&_, _||_, not}
 use mathlib.Core.List.{List, [], _∷_}
-use mathlib.Core.Option.{none, some}
 use Prim.Native.Nat.{ℕ, _+_, _-_, _≤_, _<_}
 use lib.Dec.{eqb}
 use lib.ListN.{length, getD}
 use Rattle.code.specs.Settings.{Settings, settings-refusal}
 use Rattle.code.specs.Plane.{byte-list}
 use Rattle.column.specs.Value.{Value}
-use Rattle.column.specs.Frame.{run-in, operand-in}
-use Rattle.column.specs.Record.{Rec, Held, held-as, opened, taken-at}
-use Rattle.column.specs.Refusal.{open-refusal, record-refusal, take-refusal}
-use Rattle.column.specs.Call.{Call, taking, after-take, Run, Passes, Frame-of}
+use Rattle.column.specs.Frame.{run-in}
+use Rattle.column.specs.Record.{Rec, Held, held-as, opened}
+use Rattle.column.specs.Refusal.{open-refusal}
+use Rattle.column.specs.Call.{Call, taking, Run, Passes, Frame-of}
 
 -- a good column: its number, the own value it was opened with, its list of calls, and the record after them
 pub record Good : Type 0 where

@@ -1,23 +1,22 @@
--- The syndromes of checks row by row: check c's byte times the powers count − 1 − c of the roots, which are powers of 2 in
--- progression, is what one more check adds to the sums. With zero bytes at the columns the sums are the syndromes. Assumes nothing.
+-- The syndromes of checks row by row: check c's byte times the powers count − 1 − c of the roots is what one more check adds to
+-- the sums. With zero bytes at the columns the sums are the syndromes. Assumes nothing.
 use mathlib.Core.Path.{_≡_, refl, sym, _∙_, ap, ap₂, subst}
 use mathlib.Core.Bool.{true}
 use mathlib.Core.List.{List, [], _∷_, _++_}
-use Prim.Native.Nat.{ℕ, zero, suc, _+_, _*_, _-_, _%_, _<_}
+use Prim.Native.Nat.{ℕ, zero, suc, _+_, _*_, _-_, _<_}
 use native.Mathlib.Omega.{arith}
-use native.Mathlib.Nat.{add-mul}
 use native.Mathlib.Numerals.{add-one}
 use lib.ListN.{length, getD, replicate}
 use Rattle.field.specs.Field.{plus, times, power}
 use Rattle.field.proofs.Xor.{plus-assoc, plus-lt, plus-zero, zero-plus}
 use Rattle.field.proofs.Times.{times-lt, zero-times}
-use Rattle.field.proofs.Power.{power-add, power-mul, power-mod}
 use Rattle.code.specs.Settings.{Settings, check-count}
 use Rattle.code.specs.Polynomial.{root}
 use Rattle.code.specs.Plane.{summed, syndrome}
 use Rattle.code.specs.Lanes.{lane}
 use Rattle.code.proofs.Written.{all-zero, zero-at}
-use Rattle.repair.specs.Rows.{Terms-added, Check-sums}
+use Rattle.repair.specs.Rows.{Check-sums}
+use Rattle.repair.proofs.Terms.{Terms-added}
 use Rattle.code.proofs.Lane.{lane-length, lane-more}
 
 -- bytes times falling powers: one more byte at the end, and zero bytes
@@ -41,13 +40,6 @@ pub syndrome-zeros : (s : Settings) (i n : ℕ) (cs : List ℕ) → syndrome s i
 unfolding syndrome
 syndrome-zeros s i n cs = ap (λ (b : ℕ). plus b (summed (root i) (check-count s - 1) cs)) (summed-zeros (root i) 254 n) ∙ zero-plus _ (summed-lt _ _ cs)
 
--- the power e of the roots is a progression of powers of 2
-root-power : (i e : ℕ) → power 2 (120 * e % 255 + i * e) ≡ power (root i) e
-unfolding root
-root-power i e =
-    sym (power-add (120 * e % 255) (i * e)) ∙ ap (λ (x : ℕ). times x (power 2 (i * e))) (power-mod (120 * e)) ∙ power-add (120 * e) (i * e)
-    ∙ ap (power 2) (sym (add-mul 120 i e)) ∙ sym (power-mul (120 + i) e)
-
 -- row by row
 pub check-sums-none : (count : ℕ) (checks sums : List ℕ) → length sums ≡ 160 → all-zero sums ≡ true → Check-sums 0 count checks sums
 unfolding lane summed
@@ -55,12 +47,12 @@ check-sums-none count checks sums e z = record { long = e; each = λ i p h l. ze
 
 pub check-sums-more :
     (c e count : ℕ) (checks row sums now : List ℕ) → e ≡ count - 1 - c → Check-sums c count checks sums →
-    ((p : ℕ) → p < 8 → getD row p 0 ≡ getD checks (8 * c + p) 0) → Terms-added count (120 * e % 255) e row sums now → Check-sums (c + 1) count checks now
+    ((p : ℕ) → p < 8 → getD row p 0 ≡ getD checks (8 * c + p) 0) → Terms-added count (λ i. power (root i) e) row sums now → Check-sums (c + 1) count checks now
 check-sums-more c e count checks row sums now q s r t =
     record {
       long = t .long ∙ s .long;
       each = λ i p h l.
-          t .terms i p h l ∙ ap₂ plus (s .each i p h l) (ap₂ times (r p l) (root-power i e))
+          t .terms i p h l ∙ ap₂ plus (s .each i p h l) (ap (λ (b : ℕ). times b (power (root i) e)) (r p l))
           ∙ sym
           (ap (summed (root i) (count - 1)) (ap (λ (k : ℕ). lane p k checks) (add-one c) ∙ lane-more p c checks)
           ∙ summed-more (root i) (count - 1) e _ (lane p c checks) (omega (arith, lane-length p c checks)));

@@ -19,7 +19,8 @@ use Rattle.code.specs.Array.{Written}
 use Rattle.code.specs.Lanes.{lane}
 use Rattle.code.proofs.Written.{all-zero, zero-at}
 use Rattle.repair.specs.Errors.{exponent, error-sum}
-use Rattle.repair.specs.Rows.{Zeros-as, Terms-added, Error-sums, residue, Explained-as}
+use Rattle.repair.specs.Rows.{Zeros-as, Error-sums, residue, Explained-as}
+use Rattle.repair.proofs.Terms.{Terms-added}
 use Rattle.repair.proofs.Totals.{error-sum-append}
 use Rattle.code.proofs.Lane.{lane-length, lane-more, lane-zeros}
 
@@ -41,7 +42,7 @@ error-sums-none n count weighted sums e z = record { long = e; each = λ s a b i
 
 pub error-sums-more :
     (j e n count : ℕ) (weighted row sums now : List ℕ) → ((s : Settings) → s .n ≡ n → check-count s ≡ count → e ≡ exponent s j) →
-    Error-sums j n count weighted sums → ((p : ℕ) → p < 8 → getD row p 0 ≡ getD weighted (8 * j + p) 0) → Terms-added count 0 e row sums now →
+    Error-sums j n count weighted sums → ((p : ℕ) → p < 8 → getD row p 0 ≡ getD weighted (8 * j + p) 0) → Terms-added count (λ i. power 2 (0 + i * e)) row sums now →
     Error-sums (j + 1) n count weighted now
 error-sums-more j e n count weighted row sums now q s r t =
     record {

@@ -1,17 +1,15 @@
--- A row's terms: with a progression of powers of 2 as constants its products are the terms, and a row of zeros has none.
--- Assumes nothing.
+-- A row's terms: its products with the constants that an array holds, and a row of zeros has none. Assumes nothing.
 use mathlib.Core.Path.{_≡_, refl, sym, _∙_, ap}
 use mathlib.Core.List.{List, _++_}
 use Prim.Native.Nat.{ℕ, _+_, _*_, _-_, _≤_, _<_}
 use native.Mathlib.Omega.{arith}
 use lib.ListN.{length, getD, take, drop, length-drop}
 use lib.Seq.{length-take-le, length-front, take-at, getD-take, getD-drop}
-use Rattle.field.specs.Field.{plus, times, power}
+use Rattle.field.specs.Field.{plus, times}
 use Rattle.field.proofs.Xor.{plus-zero}
 use Rattle.field.proofs.Times.{zero-times}
 use Rattle.code.specs.Array.{Filled}
 use Rattle.code.specs.Lanes.{Products-added}
-use Rattle.repair.specs.Rows.{Terms-added}
 
 -- row j, lent as a part of the rows
 module _ (rows : List ℕ) (j : ℕ) where
@@ -22,6 +20,9 @@ module _ (rows : List ℕ) (j : ℕ) where
   row-at p h = getD-take (8 * j + 8 - 8 * j) (drop (8 * j) rows) p 0 (omega arith) ∙ getD-drop (8 * j) rows p 0
 
 -- the constants: the first bytes of an array, written as one slice and read as one
+pub front-short : (k limit : ℕ) (old : List ℕ) → k ≤ length old → k ≤ limit → length (take k old) ≤ limit
+front-short k limit old h l = rw (length-take-le k old h) l
+
 module _ (k : ℕ) (f : ℕ → ℕ) (old new : List ℕ) (h : k ≤ length old) (w : Filled (length (take k old)) (length (take k old)) f new) where
   pub front-room : k ≤ length (new ++ drop k old)
   front-room = omega (arith, length-front old new k (w .long))
@@ -31,19 +32,25 @@ module _ (k : ℕ) (f : ℕ → ℕ) (old new : List ℕ) (h : k ≤ length old)
       let long : length new ≡ k = w .long ∙ length-take-le k old h in
       rw (take-at new (drop k old) k long) (record { long = long; new = λ p l. w .new p (rw (length-take-le k old h) l) })
 
-pub terms-of-zeros :
-    (many start step : ℕ) (row sums : List ℕ) → ((i : ℕ) → getD sums i 0 < 256) → ((p : ℕ) → p < 8 → getD row p 0 ≡ 0) → Terms-added many start step row sums sums
-terms-of-zeros many start step row sums byte z =
+pub products-of-zeros :
+    (row constants sums : List ℕ) → ((i : ℕ) → getD sums i 0 < 256) → ((p : ℕ) → p < 8 → getD row p 0 ≡ 0) → Products-added (length constants) row constants sums sums
+products-of-zeros row constants sums byte z =
     record {
       long = refl;
-      terms = λ i p h l.
-          sym (ap (plus (getD sums (8 * i + p) 0)) (ap (λ (b : ℕ). times b (power 2 (start + i * step))) (z p l) ∙ zero-times _) ∙ plus-zero _ (byte (8 * i + p)));
+      sums = λ i p h l.
+          sym (ap (plus (getD sums (8 * i + p) 0)) (ap (λ (b : ℕ). times b (getD constants i 0)) (z p l) ∙ zero-times _) ∙ plus-zero _ (byte (8 * i + p)));
+      rest = λ i h. refl;
     }
 
+-- to each of the first rows i of each plane its byte of a row times the constant i is added
+pub record Terms-added (many : ℕ) (constant : ℕ → ℕ) (row sums sums-now : List ℕ) : Type 0 where
+  pub long : length sums-now ≡ length sums
+  pub terms : (i p : ℕ) → i < many → p < 8 → getD sums-now (8 * i + p) 0 ≡ plus (getD sums (8 * i + p) 0) (times (getD row p 0) (constant i))
+
 pub terms-of-products :
-    (many start step : ℕ) (row constants sums now : List ℕ) → Filled many many (λ i. power 2 (start + i * step)) constants →
-    Products-added (length constants) row constants sums now → Terms-added many start step row sums now
-terms-of-products many start step row constants sums now f a =
+    (many : ℕ) (constant : ℕ → ℕ) (row constants sums now : List ℕ) → Filled many many constant constants →
+    Products-added (length constants) row constants sums now → Terms-added many constant row sums now
+terms-of-products many constant row constants sums now f a =
     record {
       long = a .long;
       terms = λ i p h l. a .sums i p (omega (arith, f .long)) l ∙ ap (λ (b : ℕ). plus (getD sums (8 * i + p) 0) (times (getD row p 0) b)) (f .new i h);

@@ -5,7 +5,7 @@ use mathlib.Core.Bool.{Bool, true, false}
 use mathlib.Core.List.{List}
 use Prim.Native.Nat.{ℕ, _+_, _*_, _-_, _≤_, _<_}
 use lib.ListN.{length, getD}
-use Rattle.field.specs.Field.{plus, times, power}
+use Rattle.field.specs.Field.{plus}
 use Rattle.code.specs.Settings.{Settings, check-count}
 use Rattle.code.specs.Polynomial.{root}
 use Rattle.code.specs.Plane.{summed}
@@ -29,13 +29,6 @@ pub record Values-added (many size : ℕ) (own checks rows : List ℕ) : Type 0 
       (c p : ℕ) → c < many → p < size → getD rows (8 * c + p) 0 ≡ plus (getD own (c * size + p) 0) (getD checks (c * size + p) 0)
   pub spare : (c p : ℕ) → size ≤ p → p < 8 → getD rows (8 * c + p) 0 ≡ 0
   pub beyond : (i : ℕ) → 8 * many ≤ i → getD rows i 0 ≡ 0
-
--- to each of the first rows i of each plane its byte of a row times 2^(start + i·step) is added
-pub record Terms-added (many start step : ℕ) (row sums sums-now : List ℕ) : Type 0 where
-  pub long : length sums-now ≡ length sums
-  pub terms :
-      (i p : ℕ) → i < many → p < 8 →
-      getD sums-now (8 * i + p) 0 ≡ plus (getD sums (8 * i + p) 0) (times (getD row p 0) (power 2 (start + i * step)))
 
 -- row i is at each plane the sum at root i of the first rows of checks, of which there are `count`
 pub record Check-sums (many count : ℕ) (checks sums : List ℕ) : Type 0 where

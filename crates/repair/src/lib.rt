@@ -111,7 +111,7 @@ fn by_difference(
     }
     let powers = field::powers();
     let logarithms = field::logarithms();
-    let sums = sums::syndromes(&powers, &difference, count);
+    let sums = sums::syndromes(&powers, &logarithms, &difference, count);
     let errors = planes::decode(&powers, &logarithms, &sums, n, t, w);
     if !errors.found {
         return NONE;

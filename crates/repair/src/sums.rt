@@ -5,11 +5,13 @@ ghost use mathlib.Core.Path.{_≡_};
 ghost use Prim.Native.Nat.{_+_, _*_, _≤_, _<_};
 ghost use lib.ListN.{length, getD};
 ghost use Rattle.field.specs.Field.{plus, power};
-ghost use Rattle.field.specs.Table.{Powers};
+ghost use Rattle.field.specs.Table.{Powers, Logarithms};
 ghost use Rattle.code.specs.Array.{Filled, Written};
+ghost use Rattle.code.specs.Lanes.{Products-added};
+ghost use Rattle.code.specs.Polynomial.{root};
 ghost use Rattle.code.specs.Settings.{Settings, check-count};
 ghost use Rattle.repair.specs.Errors.{exponent};
-ghost use Rattle.repair.specs.Rows.{Any, Zeros-as, Values-added, Terms-added, Check-sums, Error-sums, Explained-as};
+ghost use Rattle.repair.specs.Rows.{Any, Zeros-as, Values-added, Check-sums, Error-sums, Explained-as};
 
 // The `or` of the first bytes: 0 only where they all are.
 fn any_of(bytes: &[u8], many: usize) -> u8
@@ -79,45 +81,50 @@ pub fn difference(own: &[u8], checks: &[u8], count: usize, size: usize) -> [u8; 
     rows
 }
 
-// To each row i of the sums the row times 2^(start + i·step) is added, in all eight planes. A row of zeros is passed over.
-fn add_terms(
-    powers: &[u8; 255],
-    row: &[u8],
-    start: usize,
-    step: usize,
-    count: usize,
-    sums: &mut [u8],
-)
-    requires { ⌜ Powers (now powers) × (length (now row) ≡ 8) × (start < 255) × (step < 255) × (count ≤ 20) × (8 * count ≤ length (now sums)) ⌝ }
-    ensures { λ _. ⌜ Terms-added count start step (now (row .entry)) (now (sums .entry)) (now (sums .exit)) ⌝ }
+// One power of each of the first roots, which the table of the twenty roots lists.
+fn root_powers(powers: &[u8; 255], logarithms: &[u8; 256], exponent: usize, constants: &mut [u8])
+    requires { ⌜ Powers (now powers) × Logarithms (now logarithms) × (exponent ≤ 20) × (length (now constants) ≤ 20) ⌝ }
+    ensures { λ _. ⌜ Filled (length (now (constants .entry))) (length (now (constants .entry))) (λ i. power (root i) exponent) (now (constants .exit)) ⌝ }
+{
+    let roots = code::roots::roots();
+    let mut i = 0;
+    while i < constants.len() {
+        let root = roots[i] as usize;
+        let logarithm = logarithms[root] as usize;
+        constants[i] = powers[logarithm * exponent % 255];
+        i += 1;
+    }
+}
+
+// To each row of the sums the row times its constant is added, in all eight planes. A row of zeros is passed over.
+fn add_row(row: &[u8], constants: &[u8], sums: &mut [u8])
+    requires { ⌜ (length (now row) ≡ 8) × (8 * length (now constants) ≤ length (now sums)) ⌝ }
+    ensures { λ _. ⌜ Products-added (length (now (constants .entry))) (now (row .entry)) (now (constants .entry)) (now (sums .entry)) (now (sums .exit)) ⌝ }
 {
     if any_of(row, 8) == 0 {
         return;
     }
-    let mut constants = [0u8; 20];
-    progression(powers, start, step, &mut constants[..count]);
-    code::lanes::add_products(row, &constants[..count], sums);
+    code::lanes::add_products(row, constants, sums);
 }
 
 // The syndromes of the difference: check c's byte belongs to the power count - 1 - c of each root.
-pub fn syndromes(powers: &[u8; 255], difference: &[u8], count: usize) -> [u8; 160]
-    requires { ⌜ Powers (now powers) × (count ≤ 20) × (8 * count ≤ length (now difference)) ⌝ }
+pub fn syndromes(
+    powers: &[u8; 255],
+    logarithms: &[u8; 256],
+    difference: &[u8],
+    count: usize,
+) -> [u8; 160]
+    requires { ⌜ Powers (now powers) × Logarithms (now logarithms) × (count ≤ 20) × (8 * count ≤ length (now difference)) ⌝ }
     ensures { λ r. ⌜ Check-sums count count (now (difference .entry)) r ⌝ }
 {
     let mut sums = [0u8; 160];
     let mut c = 0;
     while c < count {
-        let power = count - 1 - c;
+        let mut constants = [0u8; 20];
+        root_powers(powers, logarithms, count - 1 - c, &mut constants[..count]);
         let at = 8 * c;
         let end = at + 8;
-        add_terms(
-            powers,
-            &difference[at..end],
-            120 * power % 255,
-            power,
-            count,
-            &mut sums,
-        );
+        add_row(&difference[at..end], &constants[..count], &mut sums);
         c += 1;
     }
     sums
@@ -142,16 +149,16 @@ fn error_sums(powers: &[u8; 255], weighted: &[u8], n: usize, count: usize) -> [u
     let mut sums = [0u8; 160];
     let mut j = 0;
     while j < n + count {
-        let at = 8 * j;
-        let end = at + 8;
-        add_terms(
+        let mut constants = [0u8; 20];
+        progression(
             powers,
-            &weighted[at..end],
             0,
             place_exponent(n, count, j),
-            count,
-            &mut sums,
+            &mut constants[..count],
         );
+        let at = 8 * j;
+        let end = at + 8;
+        add_row(&weighted[at..end], &constants[..count], &mut sums);
         j += 1;
     }
     sums

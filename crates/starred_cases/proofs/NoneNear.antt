@@ -2,22 +2,22 @@
 -- none of the six places: the locator finds no error, and no error does not explain the syndromes. Assumes nothing.
 use mathlib.Core.Path.{_≡_, refl, sym, _∙_, ap, ap₂}
 use mathlib.Core.List.{List, [], _∷_}
-use Prim.Native.Nat.{ℕ, zero, suc, _+_, _<_}
+use Prim.Native.Nat.{ℕ, zero, suc, _<_}
 use native.Mathlib.Omega.{arith}
 use lib.ListN.{getD, replicate}
 use Rattle.field.specs.Field.{plus, xor-from, doubled, times, times-from, power, inverse}
 use Rattle.field.proofs.Times.{zero-times}
 use Rattle.field.proofs.Power.{doublings, power-doublings}
 use Rattle.code.specs.Settings.{Settings, settings, settings-refusal, check-count, value-size}
-use Rattle.code.specs.Polynomial.{root, eval, added, scaled}
+use Rattle.code.specs.Polynomial.{eval, added, scaled}
 use Rattle.code.specs.Plane.{syndrome, byte-list}
 use Rattle.code.specs.Vector.{plane}
-use Rattle.code.specs.Repair.{Near, No-repair}
+use Rattle.code.specs.Repair.{Near}
 use Rattle.code.proofs.Bytes.{bytes-of}
 use Rattle.code.proofs.Word.{Shape}
 use Rattle.code.proofs.Quick.{quick-summed, summed-quick}
 use Rattle.repair.specs.Locator.{massey, start, changed, longer, as-long, against, raised, value}
-use Rattle.repair.specs.Errors.{exponent, error-sum, wrong-places, Located, Explained}
+use Rattle.repair.specs.Errors.{exponent, error-sum, Located, Explained}
 use Rattle.repair.proofs.Complete.{near-explained}
 use Rattle.starred_cases.specs.Cases.{none-near, Holds, single}
 

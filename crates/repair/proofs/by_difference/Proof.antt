@@ -1,10 +1,9 @@
 -- `by_difference` meets its contract: no difference, a plane that does not decode, or errors that are applied. Assumes nothing.
-use mathlib.Core.Path.{_≡_, refl, sym, _∙_}
-use Prim.Native.Nat.{ℕ, zero, suc, _+_, _*_, _≤_}
+use mathlib.Core.Path.{sym}
+use Prim.Native.Nat.{_+_, _*_, _≤_}
 use native.Mathlib.Omega.{arith}
 use borrow.Author.Tests.{not-true, not-false}
-use lib.ListN.{length}
-use Rattle.code.specs.Settings.{settings, check-count, value-size}
+use Rattle.code.specs.Settings.{settings, value-size}
 use Rattle.code.specs.Entry.{values-in}
 use Rattle.code.proofs.Bytes.{bytes-every}
 use Rattle.code.proofs.Word.{sizes}
@@ -57,25 +56,25 @@ logarithms-requires : tie.Need-logarithms-requires
 logarithms-requires c κs = search needs
 
 slice-aggregate-syndromes : tie.Need-slice-aggregate-syndromes
-slice-aggregate-syndromes c = sym (c .before .before .before .before .before .before .before .difference .ensures .long)
+slice-aggregate-syndromes c = sym (c .before .before .before .before .before .before .before .before .difference .ensures .long)
 
 syndromes-requires : tie.Need-syndromes-requires
-syndromes-requires c κs = let z = bounds (c .before .before .before .before .before .before .before .before .before .before .before .before) in (c .before .before .before .powers .ensures, omega arith, omega (arith, c .before .before .before .before .before .before .before .difference .ensures .long))
+syndromes-requires c κs = let z = bounds (c .before .before .before .before .before .before .before .before .before .before .before .before .before) in (c .before .before .before .before .powers .ensures, c .before .before .before .logarithms .ensures, omega arith, omega (arith, c .before .before .before .before .before .before .before .before .difference .ensures .long))
 
 slice-aggregate-decode : tie.Need-slice-aggregate-decode
 slice-aggregate-decode c = sym (c .before .before .before .syndromes .ensures .long)
 
 decode-requires : tie.Need-decode-requires
 decode-requires c κs =
-    let s = c .before .before .before .before .before .before .before .before .before .before .before .before .before .before .before .before in
+    let s = c .before .before .before .before .before .before .before .before .before .before .before .before .before .before .before .before .before in
     let a = s .args in
     let z = bounds s in
-    let own-bytes = bytes-every (a .own .now) (λ i. c .before .before .before .before .before .before .before .before .before .before .before .before .before .before .shared-slice-known2 .given i .fits) in
-    let check-bytes = bytes-every (a .checks .now) (λ i. c .before .before .before .before .before .before .before .before .before .before .before .before .before .shared-slice-known3 .given i .fits) in
-    let rows = c .before .before .before .before .before .before .before .before .before .before .before .difference in (
-      (c .before .before .before .before .before .before .before .powers .ensures, c .before .before .before .before .before .before .logarithms .ensures),
+    let own-bytes = bytes-every (a .own .now) (λ i. c .before .before .before .before .before .before .before .before .before .before .before .before .before .before .before .shared-slice-known2 .given i .fits) in
+    let check-bytes = bytes-every (a .checks .now) (λ i. c .before .before .before .before .before .before .before .before .before .before .before .before .before .before .shared-slice-known3 .given i .fits) in
+    let rows = c .before .before .before .before .before .before .before .before .before .before .before .before .difference in (
+      (c .before .before .before .before .before .before .before .before .powers .ensures, c .before .before .before .before .before .before .before .logarithms .ensures),
       (
-        (omega arith, z .0, some-bad (a .t) (a .w) _ _ (rows .result) _ (c .before .before .before .before .before .before .before .before .before .is-zero .ensures) (c .before .before .before .before .before .before .before .before .if1 .left) (rows .ensures), omega arith, z .2, c .before .before .before .syndromes .ensures .long),
+        (omega arith, z .0, some-bad (a .t) (a .w) _ _ (rows .result) _ (c .before .before .before .before .before .before .before .before .before .before .is-zero .ensures) (c .before .before .before .before .before .before .before .before .before .if1 .left) (rows .ensures), omega arith, z .2, c .before .before .before .syndromes .ensures .long),
         sums-spare (a .n) (a .t) (a .w) (a .vector .now) (a .own .now) (a .checks .now) (rows .result) (s .pre .0) own-bytes check-bytes (s .pre .1 .1) (s .pre .1 .2) (rows .ensures) (c .before .before .before .syndromes .result) (c .before .before .before .syndromes .ensures) (z .2),
       ),
     )
@@ -83,12 +82,12 @@ decode-requires c κs =
 returns-2 : tie.Need-returns-2
 unfolding values-in settings value-size none-found
 returns-2 c =
-    let s = c .before .before .before .before .before .before .before .before .before .before .before .before .before .before .before .before .before .before .before in
+    let s = c .before .before .before .before .before .before .before .before .before .before .before .before .before .before .before .before .before .before .before .before in
     let a = s .args in
     let z = bounds s in
-    let own-bytes = bytes-every (a .own .now) (λ i. c .before .before .before .before .before .before .before .before .before .before .before .before .before .before .before .before .before .shared-slice-known2 .given i .fits) in
-    let check-bytes = bytes-every (a .checks .now) (λ i. c .before .before .before .before .before .before .before .before .before .before .before .before .before .before .before .before .shared-slice-known3 .given i .fits) in
-    let rows = c .before .before .before .before .before .before .before .before .before .before .before .before .before .before .difference in
+    let own-bytes = bytes-every (a .own .now) (λ i. c .before .before .before .before .before .before .before .before .before .before .before .before .before .before .before .before .before .before .shared-slice-known2 .given i .fits) in
+    let check-bytes = bytes-every (a .checks .now) (λ i. c .before .before .before .before .before .before .before .before .before .before .before .before .before .before .before .before .before .shared-slice-known3 .given i .fits) in
+    let rows = c .before .before .before .before .before .before .before .before .before .before .before .before .before .before .before .difference in
     answer-none (a .n) (a .t) (a .w) (a .vector .now) (a .own .now) (a .checks .now) (rows .result) (s .pre .0) own-bytes check-bytes (s .pre .1 .1) (s .pre .1 .2) (rows .ensures) (c .before .before .before .before .before .before .syndromes .result) (c .before .before .before .before .before .before .syndromes .ensures) (z .2) _ _ (a .output .now) (not-true _ (c .if2 .taken)) (c .before .before .decode .ensures)
 
 slice-aggregate-apply-errors : tie.Need-slice-aggregate-apply-errors
@@ -96,10 +95,10 @@ slice-aggregate-apply-errors c = sym (decoded-long _ _ _ _ _ (not-false _ (c .be
 
 apply-errors-requires : tie.Need-apply-errors-requires
 apply-errors-requires c κs =
-    let s = c .before .before .before .before .before .before .before .before .before .before .before .before .before .before .before .before .before .before .before .before .before .before .before .before in
+    let s = c .before .before .before .before .before .before .before .before .before .before .before .before .before .before .before .before .before .before .before .before .before .before .before .before .before in
     let z = bounds s in
     let long = decoded-long _ _ _ _ _ (not-false _ (c .before .before .before .before .before .if2 .left)) (c .before .before .before .before .before .before .before .decode .ensures) in
-    ((c .before .before .before .before .before .before .before .before .before .before .before .before .before .before .before .powers .ensures, c .before .before .before .before .before .before .before .before .before .before .before .before .before .before .logarithms .ensures), ((z .0, z .2, omega arith), (s .pre .1 .0, s .pre .1 .3)))
+    ((c .before .before .before .before .before .before .before .before .before .before .before .before .before .before .before .before .powers .ensures, c .before .before .before .before .before .before .before .before .before .before .before .before .before .before .before .logarithms .ensures), ((z .0, z .2, omega arith), (s .pre .1 .0, s .pre .1 .3)))
 
 same-length-2 : tie.Need-same-length-2
 same-length-2 c = search needs
@@ -107,12 +106,12 @@ same-length-2 c = search needs
 returns-3 : tie.Need-returns-3
 unfolding values-in settings value-size
 returns-3 c =
-    let s = c .before .before .before .before .before .before .before .before .before .before .before .before .before .before .before .before .before .before .before .before .before .before .before .before .before .before .before in
+    let s = c .before .before .before .before .before .before .before .before .before .before .before .before .before .before .before .before .before .before .before .before .before .before .before .before .before .before .before .before in
     let a = s .args in
     let z = bounds s in
-    let own-bytes = bytes-every (a .own .now) (λ i. c .before .before .before .before .before .before .before .before .before .before .before .before .before .before .before .before .before .before .before .before .before .before .before .before .before .shared-slice-known2 .given i .fits) in
-    let check-bytes = bytes-every (a .checks .now) (λ i. c .before .before .before .before .before .before .before .before .before .before .before .before .before .before .before .before .before .before .before .before .before .before .before .before .shared-slice-known3 .given i .fits) in
-    let rows = c .before .before .before .before .before .before .before .before .before .before .before .before .before .before .before .before .before .before .before .before .before .before .difference in
+    let own-bytes = bytes-every (a .own .now) (λ i. c .before .before .before .before .before .before .before .before .before .before .before .before .before .before .before .before .before .before .before .before .before .before .before .before .before .before .shared-slice-known2 .given i .fits) in
+    let check-bytes = bytes-every (a .checks .now) (λ i. c .before .before .before .before .before .before .before .before .before .before .before .before .before .before .before .before .before .before .before .before .before .before .before .before .before .shared-slice-known3 .given i .fits) in
+    let rows = c .before .before .before .before .before .before .before .before .before .before .before .before .before .before .before .before .before .before .before .before .before .before .before .difference in
     answer-found (a .n) (a .t) (a .w) (a .vector .now) (a .own .now) (a .checks .now) (rows .result) (s .pre .0) own-bytes check-bytes (s .pre .1 .1) (s .pre .1 .2) (rows .ensures) (c .before .before .before .before .before .before .before .before .before .before .before .before .before .before .syndromes .result) (c .before .before .before .before .before .before .before .before .before .before .before .before .before .before .syndromes .ensures) (z .2) _ _ (a .output .now) _ (not-false _ (c .before .before .before .before .before .before .before .before .if2 .left)) (c .before .before .before .before .before .before .before .before .before .before .decode .ensures)
     (c .before .before .apply-errors .ensures)
 

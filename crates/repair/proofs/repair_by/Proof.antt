@@ -1,6 +1,5 @@
 -- `repair_by` meets its contract. Assumes nothing.
-use mathlib.Core.Path.{_≡_, sym, _∙_}
-use native.Mathlib.Omega.{arith}
+use mathlib.Core.Path.{sym, _∙_}
 use Rattle.repair.proofs.Entry.{accepted, repair-by-refused, repair-by-own, repair-by-done}
 use borrow.Author.Needs.{needs}
 use Rattle.repair.proofs.repair_by.Statement.{statement}

@@ -1,6 +1,6 @@
 -- `to_sixteen` meets its contract: row 8 doubles row 4, and each other is the sum of row 8 and one below it. Assumes nothing.
 use mathlib.Core.Path.{refl}
-use mathlib.Core.Logic.{inl, inr}
+use mathlib.Core.Logic.{inr}
 use native.Mathlib.Omega.{arith}
 use Rattle.code.proofs.Multiples.{multiples-double, multiples-join, plus-below}
 use Rattle.code.proofs.lanes.to_sixteen.Statement.{statement}

@@ -1,7 +1,6 @@
 -- `single_errors` meets its contract: plane after plane has its one error written, until one has more. Assumes nothing.
-use mathlib.Core.Path.{_≡_, refl, sym, _∙_}
-use mathlib.Core.Bool.{true}
-use Prim.Native.Nat.{ℕ, _+_, _*_, _-_, _≤_, _<_}
+use mathlib.Core.Path.{_≡_, refl}
+use Prim.Native.Nat.{ℕ, _-_, _≤_}
 use native.Mathlib.Omega.{arith}
 use Rattle.code.specs.Settings.{settings, check-count}
 use Rattle.repair.proofs.OneError.{Singles, singles-none, singles-more, singles-explain}

@@ -1,27 +1,40 @@
 -- `syndromes` meets its contract: each turn adds the terms of one more check. Assumes nothing.
-use mathlib.Core.Path.{_≡_, refl}
+use mathlib.Core.Path.{_≡_, refl, sym}
 use Prim.Native.Nat.{_-_, _≤_}
 use native.Mathlib.Omega.{arith}
+use lib.Seq.{length-take-le}
+use borrow.Author.Needs.{needs}
 use Rattle.repair.specs.Rows.{Check-sums}
-use Rattle.repair.proofs.Terms.{row-length, row-at}
+use Rattle.repair.proofs.Terms.{row-length, row-at, front-short, front-room, filled-front, terms-of-products}
 use Rattle.repair.proofs.CheckSums.{check-sums-none, check-sums-more, check-sums-whole}
 use Rattle.repair.proofs.sums.syndromes.Statement.{statement}
 use Rattle.repair.proofs.sums.syndromes.Tie as tie
 
 abbrev Inv-loop : tie.InvT-loop
-Inv-loop powers difference count sums₀ c₀ sums c = (c ≤ count) × Check-sums c count difference sums
+Inv-loop powers logarithms difference count sums₀ c₀ sums c = (c ≤ count) × Check-sums c count difference sums
 
 abbrev μ-loop : tie.MeasureT-loop
-μ-loop powers difference count sums₀ c₀ sums c = count - c
+μ-loop powers logarithms difference count sums₀ c₀ sums c = count - c
 
 loop-holds : tie.Need-loop-holds Inv-loop μ-loop
 loop-holds c = (omega arith, check-sums-none _ _ _ refl refl)
 
-sub-power : tie.Need-sub-power Inv-loop μ-loop
-sub-power c = omega arith
+sub-root-powers : tie.Need-sub-root-powers Inv-loop μ-loop
+sub-root-powers c = omega arith
 
-sub-power-2 : tie.Need-sub-power-2 Inv-loop μ-loop
-sub-power-2 c = omega arith
+sub-root-powers-2 : tie.Need-sub-root-powers-2 Inv-loop μ-loop
+sub-root-powers-2 c = omega arith
+
+array-borrow-prefix-constants : tie.Need-array-borrow-prefix-constants Inv-loop μ-loop
+array-borrow-prefix-constants c = search needs
+
+slice-aggregate-root-powers : tie.Need-slice-aggregate-root-powers Inv-loop μ-loop
+slice-aggregate-root-powers c = sym (length-take-le _ _ (c .before .before .before .before .pre .2))
+
+root-powers-requires : tie.Need-root-powers-requires Inv-loop μ-loop
+root-powers-requires c κs =
+    let s = c .before .before .before .before in
+    (s .pre .0, s .pre .1, omega arith, front-short _ _ _ (s .pre .2) (s .pre .2))
 
 mul-at : tie.Need-mul-at Inv-loop μ-loop
 mul-at c = omega arith
@@ -29,32 +42,30 @@ mul-at c = omega arith
 add-end : tie.Need-add-end Inv-loop μ-loop
 add-end c = omega arith
 
-sub-add-terms : tie.Need-sub-add-terms Inv-loop μ-loop
-sub-add-terms c = omega arith
+sub-add-row : tie.Need-sub-add-row Inv-loop μ-loop
+sub-add-row c = omega arith
 
-part-add-terms-start : tie.Need-part-add-terms-start Inv-loop μ-loop
-part-add-terms-start c = omega arith
+part-add-row-start : tie.Need-part-add-row-start Inv-loop μ-loop
+part-add-row-start c = omega arith
 
-part-add-terms-end : tie.Need-part-add-terms-end Inv-loop μ-loop
-part-add-terms-end c = omega arith
+part-add-row-end : tie.Need-part-add-row-end Inv-loop μ-loop
+part-add-row-end c = omega arith
 
-mul-add-terms : tie.Need-mul-add-terms Inv-loop μ-loop
-mul-add-terms c = omega arith
+array-share-prefix-constants : tie.Need-array-share-prefix-constants Inv-loop μ-loop
+array-share-prefix-constants c = front-room _ _ _ _ (c .before .before .before .before .before .before .before .pre .2) (c .before .before .root-powers .ensures)
 
-slice-aggregate-add-terms : tie.Need-slice-aggregate-add-terms Inv-loop μ-loop
-slice-aggregate-add-terms c = omega (arith, c .before .before .before .loop .inv .1 .long)
+slice-aggregate-add-row : tie.Need-slice-aggregate-add-row Inv-loop μ-loop
+slice-aggregate-add-row c = sym (filled-front _ _ _ _ (c .before .before .before .before .before .before .before .before .pre .2) (c .before .before .before .root-powers .ensures) .long)
 
-add-terms-requires : tie.Need-add-terms-requires Inv-loop μ-loop
-add-terms-requires c κs =
-    let l = c .before .before .before .loop in
-    let s = c .before .before .before .before .before in (
-      s .pre .0,
-      row-length (s .args .difference .now) (l .c) (omega arith),
-      omega arith,
-      omega arith,
-      s .pre .1,
-      omega (arith, l .inv .1 .long),
-    )
+slice-aggregate-add-row-2 : tie.Need-slice-aggregate-add-row-2 Inv-loop μ-loop
+slice-aggregate-add-row-2 c = omega (arith, c .before .before .before .before .before .before .before .loop .inv .1 .long)
+
+add-row-requires : tie.Need-add-row-requires Inv-loop μ-loop
+add-row-requires c κs =
+    let l = c .before .before .before .before .before .before .before .loop in
+    let s = c .before .before .before .before .before .before .before .before .before in
+    let f = filled-front _ _ _ _ (s .pre .2) (c .before .before .before .before .root-powers .ensures) in
+    (row-length (s .args .difference .now) (l .c) (omega arith), rw (f .long) (omega (arith, l .inv .1 .long)))
 
 add-c : tie.Need-add-c Inv-loop μ-loop
 add-c c = omega arith
@@ -64,9 +75,11 @@ loop-less c = omega arith
 
 loop-again : tie.Need-loop-again Inv-loop μ-loop
 loop-again c =
-    let l = c .before .before .before .before .before .loop in
-    let d = c .before .before .before .before .before .before .before .args .difference .now in
-    (omega arith, check-sums-more (l .c) _ _ d _ _ _ refl (l .inv .1) (row-at d (l .c)) (c .before .add-terms .ensures))
+    let l = c .before .before .before .before .before .before .before .before .before .loop in
+    let s = c .before .before .before .before .before .before .before .before .before .before .before in
+    let d = s .args .difference .now in
+    let f = filled-front _ _ _ _ (s .pre .2) (c .before .before .before .before .before .before .root-powers .ensures) in
+    (omega arith, check-sums-more (l .c) _ _ d _ _ _ refl (l .inv .1) (row-at d (l .c)) (terms-of-products _ _ _ _ _ _ f (c .before .add-row .ensures)))
 
 returns : tie.Need-returns Inv-loop μ-loop
 returns c = check-sums-whole (let e : c .before .loop .c ≡ _ = omega arith in e) (c .before .loop .inv .1)
@@ -78,16 +91,20 @@ syndromes-spec =
     Inv-loop
     μ-loop
     loop-holds
-    sub-power
-    sub-power-2
+    sub-root-powers
+    sub-root-powers-2
+    array-borrow-prefix-constants
+    slice-aggregate-root-powers
+    root-powers-requires
     mul-at
     add-end
-    sub-add-terms
-    part-add-terms-start
-    part-add-terms-end
-    mul-add-terms
-    slice-aggregate-add-terms
-    add-terms-requires
+    sub-add-row
+    part-add-row-start
+    part-add-row-end
+    array-share-prefix-constants
+    slice-aggregate-add-row
+    slice-aggregate-add-row-2
+    add-row-requires
     add-c
     loop-less
     loop-again
