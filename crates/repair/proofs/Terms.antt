@@ -19,10 +19,12 @@ module _ (rows : List ℕ) (j : ℕ) where
   pub row-at : (p : ℕ) → p < 8 → getD (take (8 * j + 8 - 8 * j) (drop (8 * j) rows)) p 0 ≡ getD rows (8 * j + p) 0
   row-at p h = getD-take (8 * j + 8 - 8 * j) (drop (8 * j) rows) p 0 (omega arith) ∙ getD-drop (8 * j) rows p 0
 
--- the constants: the first bytes of an array, written as one slice and read as one
-pub front-short : (k limit : ℕ) (old : List ℕ) → k ≤ length old → k ≤ limit → length (take k old) ≤ limit
-front-short k limit old h l = rw (length-take-le k old h) l
+-- the constants: the first bytes of an array, read as one slice
+pub filled-prefix : (k size : ℕ) (f : ℕ → ℕ) (bytes : List ℕ) → k ≤ size → Filled size size f bytes → Filled k k f (take k bytes)
+filled-prefix k size f bytes h w =
+    record { long = length-take-le k bytes (omega (arith, w .long)); new = λ p l. getD-take k bytes p 0 l ∙ w .new p (omega arith) }
 
+-- or written as one before
 module _ (k : ℕ) (f : ℕ → ℕ) (old new : List ℕ) (h : k ≤ length old) (w : Filled (length (take k old)) (length (take k old)) f new) where
   pub front-room : k ≤ length (new ++ drop k old)
   front-room = omega (arith, length-front old new k (w .long))

@@ -5,7 +5,7 @@ use mathlib.Core.Bool.{Bool, true, false}
 use mathlib.Core.List.{List}
 use Prim.Native.Nat.{ℕ, _+_, _*_, _-_, _≤_, _<_}
 use lib.ListN.{length, getD}
-use Rattle.field.specs.Field.{plus}
+use Rattle.field.specs.Field.{plus, power}
 use Rattle.code.specs.Settings.{Settings, check-count}
 use Rattle.code.specs.Polynomial.{root}
 use Rattle.code.specs.Plane.{summed}
@@ -29,6 +29,11 @@ pub record Values-added (many size : ℕ) (own checks rows : List ℕ) : Type 0 
       (c p : ℕ) → c < many → p < size → getD rows (8 * c + p) 0 ≡ plus (getD own (c * size + p) 0) (getD checks (c * size + p) 0)
   pub spare : (c p : ℕ) → size ≤ p → p < 8 → getD rows (8 * c + p) 0 ≡ 0
   pub beyond : (i : ℕ) → 8 * many ≤ i → getD rows i 0 ≡ 0
+
+-- the exponents below 255 of the powers of 2 that the twenty roots are
+pub record Root-logarithms (bytes : List ℕ) : Type 0 where
+  pub small : (i : ℕ) → i < 20 → getD bytes i 0 < 255
+  pub exponent : (i : ℕ) → i < 20 → power 2 (getD bytes i 0) ≡ root i
 
 -- row i is at each plane the sum at root i of the first rows of checks, of which there are `count`
 pub record Check-sums (many count : ℕ) (checks sums : List ℕ) : Type 0 where

@@ -11,7 +11,7 @@ ghost use Rattle.code.specs.Lanes.{Products-added};
 ghost use Rattle.code.specs.Polynomial.{root};
 ghost use Rattle.code.specs.Settings.{Settings, check-count};
 ghost use Rattle.repair.specs.Errors.{exponent};
-ghost use Rattle.repair.specs.Rows.{Any, Zeros-as, Values-added, Check-sums, Error-sums, Explained-as};
+ghost use Rattle.repair.specs.Rows.{Any, Zeros-as, Values-added, Root-logarithms, Check-sums, Error-sums, Explained-as};
 
 // The `or` of the first bytes: 0 only where they all are.
 fn any_of(bytes: &[u8], many: usize) -> u8
@@ -81,19 +81,34 @@ pub fn difference(own: &[u8], checks: &[u8], count: usize, size: usize) -> [u8; 
     rows
 }
 
-// One power of each of the first roots, which the table of the twenty roots lists.
-fn root_powers(powers: &[u8; 255], logarithms: &[u8; 256], exponent: usize, constants: &mut [u8])
-    requires { ⌜ Powers (now powers) × Logarithms (now logarithms) × (exponent ≤ 20) × (length (now constants) ≤ 20) ⌝ }
-    ensures { λ _. ⌜ Filled (length (now (constants .entry))) (length (now (constants .entry))) (λ i. power (root i) exponent) (now (constants .exit)) ⌝ }
+// The logarithms of the twenty roots, which are taken from the table that the generator is built of.
+fn root_logarithms(logarithms: &[u8; 256]) -> [u8; 20]
+    requires { ⌜ Logarithms (now logarithms) ⌝ }
+    ensures { λ r. ⌜ Root-logarithms r ⌝ }
 {
     let roots = code::roots::roots();
+    let mut exponents = [0u8; 20];
     let mut i = 0;
-    while i < constants.len() {
-        let root = roots[i] as usize;
-        let logarithm = logarithms[root] as usize;
+    while i < 20 {
+        exponents[i] = logarithms[roots[i] as usize];
+        i += 1;
+    }
+    exponents
+}
+
+// One power of each root, by its logarithm: 2^255 is 1.
+fn root_powers(powers: &[u8; 255], roots: &[u8; 20], exponent: usize) -> [u8; 20]
+    requires { ⌜ Powers (now powers) × Root-logarithms (now roots) × (exponent ≤ 20) ⌝ }
+    ensures { λ r. ⌜ Filled 20 20 (λ i. power (root i) exponent) r ⌝ }
+{
+    let mut constants = [0u8; 20];
+    let mut i = 0;
+    while i < 20 {
+        let logarithm = roots[i] as usize;
         constants[i] = powers[logarithm * exponent % 255];
         i += 1;
     }
+    constants
 }
 
 // To each row of the sums the row times its constant is added, in all eight planes. A row of zeros is passed over.
@@ -117,11 +132,11 @@ pub fn syndromes(
     requires { ⌜ Powers (now powers) × Logarithms (now logarithms) × (count ≤ 20) × (8 * count ≤ length (now difference)) ⌝ }
     ensures { λ r. ⌜ Check-sums count count (now (difference .entry)) r ⌝ }
 {
+    let roots = root_logarithms(logarithms);
     let mut sums = [0u8; 160];
     let mut c = 0;
     while c < count {
-        let mut constants = [0u8; 20];
-        root_powers(powers, logarithms, count - 1 - c, &mut constants[..count]);
+        let constants = root_powers(powers, &roots, count - 1 - c);
         let at = 8 * c;
         let end = at + 8;
         add_row(&difference[at..end], &constants[..count], &mut sums);

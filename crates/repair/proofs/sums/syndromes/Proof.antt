@@ -2,19 +2,20 @@
 use mathlib.Core.Path.{_≡_, refl, sym}
 use Prim.Native.Nat.{_-_, _≤_}
 use native.Mathlib.Omega.{arith}
-use lib.Seq.{length-take-le}
-use borrow.Author.Needs.{needs}
 use Rattle.repair.specs.Rows.{Check-sums}
-use Rattle.repair.proofs.Terms.{row-length, row-at, front-short, front-room, filled-front, terms-of-products}
+use Rattle.repair.proofs.Terms.{row-length, row-at, filled-prefix, terms-of-products}
 use Rattle.repair.proofs.CheckSums.{check-sums-none, check-sums-more, check-sums-whole}
 use Rattle.repair.proofs.sums.syndromes.Statement.{statement}
 use Rattle.repair.proofs.sums.syndromes.Tie as tie
 
 abbrev Inv-loop : tie.InvT-loop
-Inv-loop powers logarithms difference count sums₀ c₀ sums c = (c ≤ count) × Check-sums c count difference sums
+Inv-loop powers logarithms difference count roots sums₀ c₀ sums c = (c ≤ count) × Check-sums c count difference sums
 
 abbrev μ-loop : tie.MeasureT-loop
-μ-loop powers logarithms difference count sums₀ c₀ sums c = count - c
+μ-loop powers logarithms difference count roots sums₀ c₀ sums c = count - c
+
+root-logarithms-requires : tie.Need-root-logarithms-requires Inv-loop μ-loop
+root-logarithms-requires c κs = c .before .pre .1
 
 loop-holds : tie.Need-loop-holds Inv-loop μ-loop
 loop-holds c = (omega arith, check-sums-none _ _ _ refl refl)
@@ -25,16 +26,8 @@ sub-root-powers c = omega arith
 sub-root-powers-2 : tie.Need-sub-root-powers-2 Inv-loop μ-loop
 sub-root-powers-2 c = omega arith
 
-array-borrow-prefix-constants : tie.Need-array-borrow-prefix-constants Inv-loop μ-loop
-array-borrow-prefix-constants c = search needs
-
-slice-aggregate-root-powers : tie.Need-slice-aggregate-root-powers Inv-loop μ-loop
-slice-aggregate-root-powers c = sym (length-take-le _ _ (c .before .before .before .before .pre .2))
-
 root-powers-requires : tie.Need-root-powers-requires Inv-loop μ-loop
-root-powers-requires c κs =
-    let s = c .before .before .before .before in
-    (s .pre .0, s .pre .1, omega arith, front-short _ _ _ (s .pre .2) (s .pre .2))
+root-powers-requires c κs = (c .before .before .before .before .before .pre .0, c .before .before .before .root-logarithms .ensures, omega arith)
 
 mul-at : tie.Need-mul-at Inv-loop μ-loop
 mul-at c = omega arith
@@ -52,19 +45,20 @@ part-add-row-end : tie.Need-part-add-row-end Inv-loop μ-loop
 part-add-row-end c = omega arith
 
 array-share-prefix-constants : tie.Need-array-share-prefix-constants Inv-loop μ-loop
-array-share-prefix-constants c = front-room _ _ _ _ (c .before .before .before .before .before .before .before .pre .2) (c .before .before .root-powers .ensures)
+array-share-prefix-constants c = omega (arith, c .before .root-powers .ensures .long)
 
 slice-aggregate-add-row : tie.Need-slice-aggregate-add-row Inv-loop μ-loop
-slice-aggregate-add-row c = sym (filled-front _ _ _ _ (c .before .before .before .before .before .before .before .before .pre .2) (c .before .before .before .root-powers .ensures) .long)
+slice-aggregate-add-row c =
+    sym (filled-prefix _ _ _ _ (c .before .before .before .before .before .before .before .before .pre .2) (c .before .before .root-powers .ensures) .long)
 
 slice-aggregate-add-row-2 : tie.Need-slice-aggregate-add-row-2 Inv-loop μ-loop
-slice-aggregate-add-row-2 c = omega (arith, c .before .before .before .before .before .before .before .loop .inv .1 .long)
+slice-aggregate-add-row-2 c = omega (arith, c .before .before .before .before .before .before .loop .inv .1 .long)
 
 add-row-requires : tie.Need-add-row-requires Inv-loop μ-loop
 add-row-requires c κs =
-    let l = c .before .before .before .before .before .before .before .loop in
+    let l = c .before .before .before .before .before .before .loop in
     let s = c .before .before .before .before .before .before .before .before .before in
-    let f = filled-front _ _ _ _ (s .pre .2) (c .before .before .before .before .root-powers .ensures) in
+    let f = filled-prefix _ _ _ _ (s .pre .2) (c .before .before .before .root-powers .ensures) in
     (row-length (s .args .difference .now) (l .c) (omega arith), rw (f .long) (omega (arith, l .inv .1 .long)))
 
 add-c : tie.Need-add-c Inv-loop μ-loop
@@ -75,10 +69,10 @@ loop-less c = omega arith
 
 loop-again : tie.Need-loop-again Inv-loop μ-loop
 loop-again c =
-    let l = c .before .before .before .before .before .before .before .before .before .loop in
+    let l = c .before .before .before .before .before .before .before .before .loop in
     let s = c .before .before .before .before .before .before .before .before .before .before .before in
     let d = s .args .difference .now in
-    let f = filled-front _ _ _ _ (s .pre .2) (c .before .before .before .before .before .before .root-powers .ensures) in
+    let f = filled-prefix _ _ _ _ (s .pre .2) (c .before .before .before .before .before .root-powers .ensures) in
     (omega arith, check-sums-more (l .c) _ _ d _ _ _ refl (l .inv .1) (row-at d (l .c)) (terms-of-products _ _ _ _ _ _ f (c .before .add-row .ensures)))
 
 returns : tie.Need-returns Inv-loop μ-loop
@@ -90,11 +84,10 @@ syndromes-spec =
     (tie.spec
     Inv-loop
     μ-loop
+    root-logarithms-requires
     loop-holds
     sub-root-powers
     sub-root-powers-2
-    array-borrow-prefix-constants
-    slice-aggregate-root-powers
     root-powers-requires
     mul-at
     add-end

@@ -1,0 +1,83 @@
+-- `root_logarithms` meets its contract: what stands at a root in the table of logarithms is the root's. Assumes nothing.
+use mathlib.Core.Path.{_≡_, refl, sym, _∙_, ap}
+use mathlib.Core.List.{List}
+use Prim.Native.Nat.{ℕ, _-_, _≤_, _<_}
+use native.Mathlib.Omega.{arith}
+use lib.ListN.{getD}
+use borrow.Author.Needs.{needs}
+use Rattle.field.specs.Field.{power}
+use Rattle.field.specs.Table.{Logarithms}
+use Rattle.code.specs.Polynomial.{Roots, root}
+use Rattle.code.specs.Array.{Filled}
+use Rattle.code.proofs.Generator.{root-lt, root-nonzero}
+use Rattle.code.proofs.Written.{filled-none, filled-more}
+use Rattle.repair.proofs.sums.root_logarithms.Statement.{statement}
+use Rattle.repair.proofs.sums.root_logarithms.Tie as tie
+
+-- a root is a byte, and none is 0
+positive : (i : ℕ) → 1 ≤ root i
+positive i = let z : root i ≡ 0 → ⊥ = root-nonzero i in omega arith
+
+abbrev Inv-loop : tie.InvT-loop
+Inv-loop logarithms roots exponents₀ i₀ exponents i = (i ≤ 20) × Filled 20 i (λ k. getD logarithms (root k) 0) exponents
+
+abbrev μ-loop : tie.MeasureT-loop
+μ-loop logarithms roots exponents₀ i₀ exponents i = 20 - i
+
+roots-requires : tie.Need-roots-requires Inv-loop μ-loop
+roots-requires c κs = search needs
+
+loop-holds : tie.Need-loop-holds Inv-loop μ-loop
+loop-holds c = (omega arith, filled-none _ _ _ refl)
+
+array-read-exponents : tie.Need-array-read-exponents Inv-loop μ-loop
+array-read-exponents c = omega arith
+
+cast-exponents : tie.Need-cast-exponents Inv-loop μ-loop
+cast-exponents c = search needs
+
+element-copy-out-exponents : tie.Need-element-copy-out-exponents Inv-loop μ-loop
+element-copy-out-exponents c = let i = c .before .loop .i in rw (c .before .before .roots .ensures .entry i (omega arith)) (root-lt i)
+
+array-write-exponents : tie.Need-array-write-exponents Inv-loop μ-loop
+array-write-exponents c = omega arith
+
+add-i : tie.Need-add-i Inv-loop μ-loop
+add-i c = omega arith
+
+loop-less : tie.Need-loop-less Inv-loop μ-loop
+loop-less c = omega arith
+
+loop-again : tie.Need-loop-again Inv-loop μ-loop
+loop-again c =
+    let l = c .before .before .loop in (
+      omega arith,
+      filled-more _ _ _ _ _ (l .inv .1) (omega arith)
+      (ap (λ (x : ℕ). getD (c .before .before .before .before .args .logarithms .now) x 0) (c .before .before .before .roots .ensures .entry (l .i) (omega arith))),
+    )
+
+returns : tie.Need-returns Inv-loop μ-loop
+returns c =
+    let t = c .before .before .before .pre in
+    let f = c .before .loop .inv .1 in
+    record {
+      small = λ i h. rw (f .new i (omega arith)) (t .small (root i) (positive i) (root-lt i));
+      exponent = λ i h. ap (power 2) (f .new i (omega arith)) ∙ t .exponent (root i) (positive i) (root-lt i);
+    }
+
+pub root-logarithms-spec : {M : Type 1} → statement M
+root-logarithms-spec =
+    tie.close
+    (tie.spec
+    Inv-loop
+    μ-loop
+    roots-requires
+    loop-holds
+    array-read-exponents
+    cast-exponents
+    element-copy-out-exponents
+    array-write-exponents
+    add-i
+    loop-less
+    loop-again
+    returns)
