@@ -8,10 +8,12 @@ use native.Mathlib.Omega.{arith}
 use native.Mathlib.Nat.{suc-mul}
 use native.Mathlib.Numerals.{add-one}
 use lib.ListN.{length, getD, take, drop, length-append, length-drop}
-use lib.Seq.{length-take-le, take-at, drop-at, drop-drop, ext-getD}
+use lib.Seq.{length-take-le, getD-take, take-at, drop-at, drop-drop, ext-getD}
 use Rattle.field.specs.Field.{plus, times, power, inverse}
+use Rattle.field.proofs.Xor.{plus-zero}
+use Rattle.field.proofs.Times.{times-zero}
 use Rattle.field.proofs.Power.{power-lt}
-use Rattle.code.specs.Array.{Filled}
+use Rattle.code.specs.Array.{Filled, Written}
 use Rattle.code.specs.Polynomial.{added, scaled}
 use Rattle.code.specs.Vector.{cut, glued}
 use Rattle.code.specs.Entry.{in-front}
@@ -91,6 +93,20 @@ value-added c w vs es now h b l m f =
     f .new p (rw (f .long) at k)
     ∙ sym (getD-added vs (scaled c es) p b (bytes-scaled c es) ∙ ap (plus (getD vs p 0)) (getD-scaled c es p h)))
 
+-- or copied, where it has none
+pub value-kept :
+    (c : ℕ) (vs es old now : List ℕ) → c < 256 → length vs ≡ length old → length old ≤ 8 → ((i : ℕ) → getD vs i 0 < 256) →
+    ((p : ℕ) → p < 8 → getD es p 0 ≡ 0) → Written 0 (length vs) (λ p. getD vs (0 + p) 0) old now →
+    Filled (length old) (length old) (λ p. plus (getD vs p 0) (times c (getD es p 0))) now
+value-kept c vs es old now h e l byte z w =
+    record {
+      long = w .long;
+      new = λ p k.
+          let q : 0 + p ≡ p = omega arith in
+          ap (λ (i : ℕ). getD now i 0) (sym q) ∙ w .new p (omega arith) ∙ ap (λ (i : ℕ). getD vs i 0) q
+          ∙ sym (ap (plus (getD vs p 0)) (ap (times c) (z p (omega arith)) ∙ times-zero c h) ∙ plus-zero (getD vs p 0) (byte p));
+    }
+
 -- what the loop has written after k columns: up to a place, and the old output from there on
 pub record Mended-to (k at size : ℕ) (vector weighted output output-now : List ℕ) : Type 0 where
   pub place : at ≡ k * size
@@ -108,11 +124,11 @@ mended-long {k} {at} {w} {vs} {ys} {output} {now} m l =
 
 module _ (k at w c : ℕ) (vs ys output so-far now : List ℕ) (m : Mended-to k at w vs ys output so-far) (h : k < 254) where
   pub mended-more :
-      at + w ≤ length vs → 8 * k + w ≤ length ys → at + w ≤ length output → c ≡ power 2 (120 + k * 120) → Bytes vs →
+      w ≤ 8 → at + w ≤ length vs → 8 * k + w ≤ length ys → at + w ≤ length output → c ≡ power 2 (120 + k * 120) → Bytes vs →
       Filled (length (take (at + w - at) (drop at so-far))) (length (take (at + w - at) (drop at so-far)))
-      (λ p. plus (getD (take (at + w - at) (drop at vs)) p 0) (times c (getD (take (8 * k + w - 8 * k) (drop (8 * k) ys)) p 0))) now →
+      (λ p. plus (getD (take (at + w - at) (drop at vs)) p 0) (times c (getD (take (8 * k + 8 - 8 * k) (drop (8 * k) ys)) p 0))) now →
       Mended-to (k + 1) (at + w) w vs ys output (take at so-far ++ (now ++ drop (at + w - at) (drop at so-far)))
-  mended-more a b d e byte f = record { place = here; long = next-long; bytes = joined }
+  mended-more small a b d e byte f = record { place = here; long = next-long; bytes = joined }
     where
       value : List ℕ
       value = take w (drop at vs)
@@ -148,8 +164,8 @@ module _ (k at w c : ℕ) (vs ys output so-far now : List ℕ) (m : Mended-to k 
             long = f .long ∙ own-long;
             new = λ p l.
                 f .new p (rw own-long l)
-                ∙ ap₂ (λ (i j : ℕ). plus (getD (take i (drop at vs)) p 0) (times c (getD (take j (drop (8 * k) ys)) p 0))) plain
-                (let q : 8 * k + w - 8 * k ≡ w = omega arith in q);
+                ∙ ap₂ (λ (i e : ℕ). plus (getD (take i (drop at vs)) p 0) (times c e)) plain
+                (getD-take (8 * k + 8 - 8 * k) (drop (8 * k) ys) p 0 (omega arith) ∙ sym (getD-take w (drop (8 * k) ys) p 0 l));
           })
 
       next : mended-front (k + 1) w vs ys ≡ front ++ now

@@ -16,6 +16,7 @@ ghost use Rattle.repair.specs.Errors.{wrong-places};
 ghost use Rattle.repair.specs.Difference.{plus-values};
 ghost use Rattle.repair.specs.Search.{Place-powers, Evaluated, Listed, Lane-written, column-errors};
 use crate::locator::error_at;
+use crate::sums::any_of;
 use crate::sums::progression;
 
 // Each place's m-th power.
@@ -129,7 +130,7 @@ pub fn count_wrong(weighted: &[u8], p: usize, many: usize) -> usize
     wrong
 }
 
-// A value with its errors added, each times a constant.
+// A value with its errors added, each times a constant; most values have none.
 fn add_errors(
     powers: &[u8; 255],
     logarithms: &[u8; 256],
@@ -139,9 +140,13 @@ fn add_errors(
     output: &mut [u8],
 )
     requires { ⌜ Powers (now powers) × Logarithms (now logarithms) ⌝ }
-    requires { ⌜ (length (now value) ≡ length (now output)) × (length (now errors) ≡ length (now output)) ⌝ }
+    requires { ⌜ (length (now value) ≡ length (now output)) × (length (now output) ≤ 8) × (length (now errors) ≡ 8) ⌝ }
     ensures { λ _. ⌜ Filled (length (now (output .entry))) (length (now (output .entry))) (λ p. plus (getD (now (value .entry)) p 0) (times constant (getD (now (errors .entry)) p 0))) (now (output .exit)) ⌝ }
 {
+    if any_of(errors, 8) == 0 {
+        code::planes::copy_value(output, 0, value, 0, value.len());
+        return;
+    }
     let mut p = 0;
     while p < output.len() {
         output[p] = field::sum(
@@ -174,7 +179,7 @@ pub fn apply_errors(
     while k < n {
         let end = at + size;
         let row = 8 * k;
-        let row_end = row + size;
+        let row_end = row + 8;
         add_errors(
             powers,
             logarithms,

@@ -14,7 +14,7 @@ ghost use Rattle.repair.specs.Errors.{exponent};
 ghost use Rattle.repair.specs.Rows.{Any, Zeros-as, Values-added, Root-logarithms, Check-sums, Error-sums, Explained-as};
 
 // The `or` of the first bytes: 0 only where they all are.
-fn any_of(bytes: &[u8], many: usize) -> u8
+pub fn any_of(bytes: &[u8], many: usize) -> u8
     requires { ⌜ many ≤ length (now bytes) ⌝ }
     ensures { λ r. ⌜ Any many r (now (bytes .entry)) ⌝ }
 {

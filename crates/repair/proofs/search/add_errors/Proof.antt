@@ -1,4 +1,4 @@
--- `add_errors` meets its contract. Assumes nothing.
+-- `add_errors` meets its contract: a value without errors is copied. Assumes nothing.
 use mathlib.Core.Path.{_≡_, refl, _∙_, ap}
 use Prim.Native.Nat.{_-_, _≤_}
 use native.Mathlib.Omega.{arith}
@@ -6,6 +6,7 @@ use lib.ListN.{length, getD}
 use Rattle.field.specs.Field.{plus, times}
 use Rattle.code.specs.Array.{Filled}
 use Rattle.code.proofs.Written.{filled-none, filled-more, filled-to}
+use Rattle.repair.proofs.ColumnErrors.{value-kept}
 use Rattle.repair.proofs.search.add_errors.Statement.{statement}
 use Rattle.repair.proofs.search.add_errors.Tie as tie
 
@@ -15,8 +16,24 @@ Inv-loop powers logarithms constant value errors output₀ p₀ output p = (p �
 abbrev μ-loop : tie.MeasureT-loop
 μ-loop powers logarithms constant value errors output₀ p₀ output p = length output₀ - p
 
+any-of-requires : tie.Need-any-of-requires Inv-loop μ-loop
+any-of-requires c κs = omega (arith, c .before .before .before .pre .1)
+
+copy-value-requires : tie.Need-copy-value-requires Inv-loop μ-loop
+copy-value-requires c κs = let p = c .before .before .before .before .before .before .pre .1 in (omega (arith, p), omega arith)
+
+same-length : tie.Need-same-length Inv-loop μ-loop
+same-length c = c .before .before .copy-value .ensures .long
+
+returns : tie.Need-returns Inv-loop μ-loop
+returns c =
+    let s = c .before .before .before .before .before .before .before .before .before in
+    value-kept (s .args .constant) (s .args .value .now) (s .args .errors .now) (s .args .output .now) _ (s .fits .constant .fits) (s .pre .1 .0) (s .pre .1 .1)
+    (λ i. c .before .before .before .before .before .before .before .before .shared-slice-known .given i .fits)
+    (c .before .before .before .before .before .any-of .ensures .none (c .before .before .before .before .if1 .taken)) (c .before .before .copy-value .ensures)
+
 loop-holds : tie.Need-loop-holds Inv-loop μ-loop
-loop-holds c = (omega arith, filled-none _ _ (c .before .before .before .args .output .now) refl)
+loop-holds c = (omega arith, filled-none _ _ (c .before .before .before .before .before .args .output .now) refl)
 
 shared-slice-read-sum : tie.Need-shared-slice-read-sum Inv-loop μ-loop
 shared-slice-read-sum c = omega arith
@@ -25,7 +42,7 @@ shared-slice-read-product-by : tie.Need-shared-slice-read-product-by Inv-loop μ
 shared-slice-read-product-by c = omega arith
 
 product-by-requires : tie.Need-product-by-requires Inv-loop μ-loop
-product-by-requires c κs = c .before .before .before .before .before .before .before .pre .0
+product-by-requires c κs = c .before .before .before .before .before .before .before .before .before .pre .0
 
 sum-requires : tie.Need-sum-requires Inv-loop μ-loop
 sum-requires c κs = tt
@@ -44,11 +61,11 @@ loop-again c =
     let d = c .before .before .before .before .before in
     (omega arith, filled-more _ _ _ _ _ (d .loop .inv .1) (omega arith) (c .sum .ensures ∙ ap (plus _) (c .before .product-by .ensures)))
 
-same-length : tie.Need-same-length Inv-loop μ-loop
-same-length c = c .before .loop .inv .1 .long
+same-length-2 : tie.Need-same-length-2 Inv-loop μ-loop
+same-length-2 c = c .before .loop .inv .1 .long
 
-returns : tie.Need-returns Inv-loop μ-loop
-returns c = filled-to (let e : c .before .loop .p ≡ _ = omega arith in e) (c .before .loop .inv .1)
+returns-2 : tie.Need-returns-2 Inv-loop μ-loop
+returns-2 c = filled-to (let e : c .before .loop .p ≡ _ = omega arith in e) (c .before .loop .inv .1)
 
 pub add-errors-spec : {M : Type 1} → statement M
 add-errors-spec =
@@ -56,6 +73,10 @@ add-errors-spec =
     (tie.spec
     Inv-loop
     μ-loop
+    any-of-requires
+    copy-value-requires
+    same-length
+    returns
     loop-holds
     shared-slice-read-sum
     shared-slice-read-product-by
@@ -65,5 +86,5 @@ add-errors-spec =
     add-p
     loop-less
     loop-again
-    same-length
-    returns)
+    same-length-2
+    returns-2)

@@ -87,7 +87,8 @@ add-errors-requires c κs =
       s .pre .0,
       (
         part-long (l .at) w (s .args .vector .now) (omega (arith, room t)) ∙ sym own,
-        part-long (8 * l .k) w (s .args .weighted .now) (omega arith) ∙ sym own,
+        rw own (s .pre .1 .0 .1),
+        part-long (8 * l .k) 8 (s .args .weighted .now) (omega arith),
       ),
     )
 
@@ -104,7 +105,7 @@ loop-again c =
     let s = t .before .before .before .before .before .before .before .before in (
       omega arith,
       mended-more (l .k) (l .at) (s .args .size) _ (s .args .vector .now) (s .args .weighted .now) (s .args .output .now) (l .output) _ (l .inv .1) (omega arith)
-          (omega (arith, room t)) (omega arith) (omega (arith, room t)) (t .before .before .before .progression .ensures .new (l .k) (omega arith))
+          (s .pre .1 .0 .1) (omega (arith, room t)) (omega arith) (omega (arith, room t)) (t .before .before .before .progression .ensures .new (l .k) (omega arith))
           (bytes-every (s .args .vector .now) (λ i. t .before .before .before .before .before .before .before .shared-slice-known .given i .fits))
           (c .before .before .add-errors .ensures),
     )

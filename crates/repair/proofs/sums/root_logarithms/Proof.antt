@@ -1,13 +1,11 @@
 -- `root_logarithms` meets its contract: what stands at a root in the table of logarithms is the root's. Assumes nothing.
-use mathlib.Core.Path.{_≡_, refl, sym, _∙_, ap}
-use mathlib.Core.List.{List}
-use Prim.Native.Nat.{ℕ, _-_, _≤_, _<_}
+use mathlib.Core.Path.{_≡_, refl, _∙_, ap}
+use Prim.Native.Nat.{ℕ, _-_, _≤_}
 use native.Mathlib.Omega.{arith}
 use lib.ListN.{getD}
 use borrow.Author.Needs.{needs}
 use Rattle.field.specs.Field.{power}
-use Rattle.field.specs.Table.{Logarithms}
-use Rattle.code.specs.Polynomial.{Roots, root}
+use Rattle.code.specs.Polynomial.{root}
 use Rattle.code.specs.Array.{Filled}
 use Rattle.code.proofs.Generator.{root-lt, root-nonzero}
 use Rattle.code.proofs.Written.{filled-none, filled-more}
@@ -53,7 +51,7 @@ loop-again c =
     let l = c .before .before .loop in (
       omega arith,
       filled-more _ _ _ _ _ (l .inv .1) (omega arith)
-      (ap (λ (x : ℕ). getD (c .before .before .before .before .args .logarithms .now) x 0) (c .before .before .before .roots .ensures .entry (l .i) (omega arith))),
+          (ap (λ (x : ℕ). getD (c .before .before .before .before .args .logarithms .now) x 0) (c .before .before .before .roots .ensures .entry (l .i) (omega arith))),
     )
 
 returns : tie.Need-returns Inv-loop μ-loop

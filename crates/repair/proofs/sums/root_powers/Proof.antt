@@ -57,7 +57,7 @@ loop-again c =
     let l = c .before .before .before .loop in (
       omega arith,
       filled-more _ _ _ _ _ (l .inv .1) (omega arith)
-      (powers-at _ (s .pre .0) _ (omega arith) ∙ root-power (l .i) (s .args .exponent) _ (s .pre .1 .exponent (l .i) (omega arith))),
+          (powers-at _ (s .pre .0) _ (omega arith) ∙ root-power (l .i) (s .args .exponent) _ (s .pre .1 .exponent (l .i) (omega arith))),
     )
 
 returns : tie.Need-returns Inv-loop μ-loop
