@@ -1,14 +1,14 @@
--- The generator and its feedback in arrays. A product by one more factor is written coefficient by coefficient, with zeros past
--- the last; from the generator for one root fewer it makes the next; and the feedback is the generator over its lowest
--- coefficient, without that one, so that a root times its value there is 1. Assumes nothing.
+-- The generator and its feedback in arrays. A product by one more factor is written over the polynomial from the highest
+-- coefficient on, since each needs that place's old byte and the one below it; from the generator for one root fewer it makes
+-- the next; and the feedback is the generator over its lowest coefficient, without that one, so that a root times its value
+-- there is 1. Assumes nothing.
 use mathlib.Core.Path.{_≡_, refl, sym, _∙_, ap, ap₂, subst}
-use mathlib.Core.Bool.{true}
 use mathlib.Core.List.{List, [], _∷_}
 use Prim.Native.Nat.{ℕ, zero, suc, _+_, _-_, _≤_, _<_}
 use native.Mathlib.Omega.{arith}
 use native.Mathlib.Decide.{decLt}
-use lib.ListN.{length, getD, set, List·getD-eq-default}
-use lib.Seq.{ext-getD, getD-set-other}
+use lib.ListN.{length, getD, set, replicate, length-set, getD-replicate, List·getD-eq-default}
+use lib.Seq.{ext-getD, getD-set-same, getD-set-other}
 use Rattle.field.specs.Field.{plus, times, inverse}
 use Rattle.field.proofs.Xor.{plus-self, zero-plus, equal-of-plus-zero}
 use Rattle.field.proofs.Times.{times-lt, times-zero}
@@ -19,7 +19,6 @@ use Rattle.code.specs.Array.{Filled}
 use Rattle.code.proofs.Bytes.{Bytes, byte-at}
 use Rattle.code.proofs.Polynomial.{eval-scaled, getD-scaled, length-scaled}
 use Rattle.code.proofs.Generator.{root-lt, getD-factor, generator-length, generator-bytes, generator-root, generator-constant}
-use Rattle.code.proofs.Written.{all-zero, zero-at, filled-more}
 
 -- the generator in an array: a coefficient of the product by one more factor
 abbrev pub factor-at : (c : ℕ) (fewer : List ℕ) (i : ℕ) → ℕ
@@ -29,45 +28,50 @@ below-at : (fewer : List ℕ) (i : ℕ) → 1 ≤ i → getD (0 ∷ fewer) i 0 �
 below-at fewer zero h = absurd (omega arith)
 below-at fewer (suc i) h = ap (λ (k : ℕ). getD fewer k 0) (let e : i ≡ suc i - 1 = omega arith in e)
 
--- the first i coefficients of the product, and zeros above them
+-- the product's coefficients above i, and up to i still the polynomial's
 pub record Factored (c i : ℕ) (fewer product : List ℕ) : Type 0 where
-  pub some : 1 ≤ i
-  pub filled : Filled 21 i (factor-at c fewer) product
-  pub above : (k : ℕ) → i ≤ k → getD product k 0 ≡ 0
+  pub long : length product ≡ 21
+  pub old : (k : ℕ) → k ≤ i → getD product k 0 ≡ getD fewer k 0
+  pub new : (k : ℕ) → i < k → getD product k 0 ≡ factor-at c fewer k
 
-pub factored-first :
-    (c v : ℕ) (fewer rest : List ℕ) → length rest ≡ 20 → all-zero rest ≡ true → v ≡ times c (getD fewer 0 0) → Factored c 1 fewer (v ∷ rest)
-factored-first c v fewer rest l z e = record { some = omega arith; filled = record { long = ap suc l; new = at }; above = above }
+-- above its highest coefficient the product is zeros, as the polynomial is from there on
+pub factored-none :
+    (c many : ℕ) (fewer : List ℕ) → c < 256 → length fewer ≡ 21 → ((k : ℕ) → many ≤ k → getD fewer k 0 ≡ 0) → Factored c many fewer fewer
+factored-none c many fewer h l z = record { long = l; old = λ k b. refl; new = above }
   where
-    at : (i : ℕ) → i < 1 → getD (v ∷ rest) i 0 ≡ factor-at c fewer i
-    at zero h = e ∙ sym (zero-plus _ (times-lt _ _))
-    at (suc i) h = absurd (omega arith)
-
-    above : (k : ℕ) → 1 ≤ k → getD (v ∷ rest) k 0 ≡ 0
-    above zero h = absurd (omega arith)
-    above (suc k) h = zero-at rest z k
+    above : (k : ℕ) → many < k → getD fewer k 0 ≡ factor-at c fewer k
+    above k b =
+        z k (omega arith)
+        ∙ sym (ap₂ plus (below-at fewer k (omega arith) ∙ z (k - 1) (omega arith)) (ap (times c) (z k (omega arith)) ∙ times-zero c h) ∙ plus-self 0)
 
 pub factored-more :
-    (c i v : ℕ) (fewer product : List ℕ) → Factored c i fewer product → i < 21 → v ≡ plus (getD fewer (i - 1) 0) (times c (getD fewer i 0)) →
-    Factored c (i + 1) fewer (set product i v)
-factored-more c i v fewer product w h e =
+    (c i v : ℕ) (fewer product : List ℕ) → Factored c i fewer product → 1 ≤ i → i < 21 →
+    v ≡ plus (getD product (i - 1) 0) (times c (getD product i 0)) → Factored c (i - 1) fewer (set product i v)
+factored-more c i v fewer product w h b e =
     record {
-      some = omega arith;
-      filled = filled-more 21 i v _ product (w .filled) h (e ∙ ap₂ plus (sym (below-at fewer i (w .some))) refl);
-      above = λ k l. getD-set-other product i k v 0 (omega arith) ∙ w .above k (omega arith);
+      long = length-set product i v ∙ w .long;
+      old = λ k l. getD-set-other product i k v 0 (omega arith) ∙ w .old k (omega arith);
+      new = λ k l. go k l (decLt i k);
     }
-
--- past the product's coefficients there are only zeros
-pub factored-whole :
-    (c many i : ℕ) (fewer product : List ℕ) → c < 256 → ((k : ℕ) → many ≤ k → getD fewer k 0 ≡ 0) → i ≡ many + 1 → Factored c i fewer product →
-    Filled 21 21 (factor-at c fewer) product
-factored-whole c many i fewer product h z e w = record { long = w .filled .long; new = λ k l. go k (decLt k i) }
   where
-    go : (k : ℕ) → Dec (k < i) → getD product k 0 ≡ factor-at c fewer k
-    go k (yes l) = w .filled .new k l
-    go k (no l) =
-        w .above k (omega arith)
-        ∙ sym (ap₂ plus (below-at fewer k (omega arith) ∙ z (k - 1) (omega arith)) (ap (times c) (z k (omega arith)) ∙ times-zero c h) ∙ plus-self 0)
+    here : getD (set product i v) i 0 ≡ factor-at c fewer i
+    here =
+        getD-set-same product i v 0 (omega (arith, w .long)) ∙ e
+        ∙ ap₂ plus (w .old (i - 1) (omega arith) ∙ sym (below-at fewer i h)) (ap (times c) (w .old i (omega arith)))
+
+    go : (k : ℕ) → i - 1 < k → Dec (i < k) → getD (set product i v) k 0 ≡ factor-at c fewer k
+    go k l (yes m) = getD-set-other product i k v 0 (omega arith) ∙ w .new k m
+    go k l (no m) = subst (λ (j : ℕ). getD (set product i v) j 0 ≡ factor-at c fewer j) (let q : i ≡ k = omega arith in q) here
+
+-- the lowest coefficient has none below it
+pub factored-whole :
+    (c i v : ℕ) (fewer product : List ℕ) → Factored c i fewer product → i ≡ 0 → v ≡ times c (getD product 0 0) →
+    Filled 21 21 (factor-at c fewer) (set product 0 v)
+factored-whole c i v fewer product w q e = record { long = length-set product 0 v ∙ w .long; new = λ k l. at k }
+  where
+    at : (k : ℕ) → getD (set product 0 v) k 0 ≡ factor-at c fewer k
+    at zero = getD-set-same product 0 v 0 (omega (arith, w .long)) ∙ e ∙ ap (times c) (w .old 0 (omega arith)) ∙ sym (zero-plus _ (times-lt _ _))
+    at (suc k) = getD-set-other product 0 (suc k) v 0 (omega arith) ∙ w .new (suc k) (omega arith)
 
 -- an array that holds a list holds it everywhere
 pub filled-everywhere :
@@ -79,14 +83,15 @@ filled-everywhere size ps array h w i = go (decLt i size)
     go (no l) = List·getD-eq-default array 0 (omega (arith, w .long)) ∙ sym (List·getD-eq-default ps 0 (omega arith))
 
 pub generator-none :
-    (many : ℕ) (rest : List ℕ) → many ≡ 0 → length rest ≡ 20 → all-zero rest ≡ true → Filled 21 21 (λ i. getD (generator many) i 0) (1 ∷ rest)
+    (many : ℕ) (zeros : List ℕ) → many ≡ 0 → zeros ≡ replicate 21 0 → Filled 21 21 (λ i. getD (generator many) i 0) (set zeros 0 1)
 unfolding generator
-generator-none (suc k) rest q e z = absurd (omega arith)
-generator-none zero rest q e z = record { long = ap suc e; new = at }
+generator-none (suc k) zeros q e = absurd (omega arith)
+generator-none zero zeros q e = record { long = length-set zeros 0 1 ∙ ap length e; new = at }
   where
-    at : (i : ℕ) → i < 21 → getD (1 ∷ rest) i 0 ≡ getD (1 ∷ []) i 0
-    at zero h = refl
-    at (suc i) h = zero-at rest z i
+    at : (i : ℕ) → i < 21 → getD (set zeros 0 1) i 0 ≡ getD (1 ∷ []) i 0
+    at zero h = getD-set-same zeros 0 1 0 (omega (arith, ap length e))
+    at (suc i) h =
+        getD-set-other zeros 0 (suc i) 1 0 (omega arith) ∙ ap (λ (bytes : List ℕ). getD bytes (suc i) 0) e ∙ getD-replicate 21 (suc i) 0 0 h
 
 -- one root fewer, in an array
 module _ (k : ℕ) (fewer : List ℕ) (h : k < 20) (f : Filled 21 21 (λ i. getD (generator k) i 0) fewer) where

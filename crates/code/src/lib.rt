@@ -41,7 +41,8 @@ fn put_checks(n: usize, t: usize, w: usize, vector: &[u8], output: &mut [u8])
     let logarithms = field::logarithms();
     let roots = roots::roots();
     let count = 2 * t;
-    let generator = register::generator(&powers, &logarithms, &roots, count);
+    let mut generator = [0u8; 21];
+    register::generator(&powers, &logarithms, &roots, count, &mut generator);
     let feedback = register::feedback(&powers, &logarithms, &generator, count);
     let mut rows = planes::load(vector, n, w);
     let end = 8 * (n + count);

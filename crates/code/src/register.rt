@@ -5,7 +5,7 @@
 ghost use mathlib.Core.Path.{_≡_};
 ghost use mathlib.Core.List.{_∷_};
 ghost use Prim.Native.Nat.{ℕ, _+_, _*_, _≤_, _<_};
-ghost use lib.ListN.{length, getD};
+ghost use lib.ListN.{length, getD, replicate};
 ghost use Rattle.field.specs.Field.{plus, times, inverse};
 ghost use Rattle.field.specs.Table.{Powers, Logarithms};
 ghost use Rattle.code.specs.Polynomial.{Roots, generator as «generator-of»};
@@ -13,46 +13,44 @@ ghost use Rattle.code.specs.Array.{Filled};
 ghost use Rattle.code.specs.Lanes.{Divided};
 use crate::lanes;
 
-// A polynomial times (x + c), of one coefficient more. Past its coefficients the polynomial's array holds zeros.
+// The polynomial becomes its product by (x + c), from the new highest coefficient on. Past its coefficients the array holds zeros.
 fn times_factor(
     powers: &[u8; 255],
     logarithms: &[u8; 256],
     c: u8,
-    fewer: &[u8; 21],
+    polynomial: &mut [u8; 21],
     many: usize,
-) -> [u8; 21]
-    requires { ⌜ Powers (now powers) × Logarithms (now logarithms) × (many ≤ 20) × ((i : ℕ) → many ≤ i → getD (now fewer) i 0 ≡ 0) ⌝ }
-    ensures { λ r. ⌜ Filled 21 21 (λ i. plus (getD (0 ∷ now (fewer .entry)) i 0) (times c (getD (now (fewer .entry)) i 0))) r ⌝ }
+)
+    requires { ⌜ Powers (now powers) × Logarithms (now logarithms) × (many ≤ 20) × (length (now polynomial) ≡ 21) × ((i : ℕ) → many ≤ i → getD (now polynomial) i 0 ≡ 0) ⌝ }
+    ensures { λ _. ⌜ Filled 21 21 (λ i. plus (getD (0 ∷ now (polynomial .entry)) i 0) (times c (getD (now (polynomial .entry)) i 0))) (now (polynomial .exit)) ⌝ }
 {
-    let mut product = [0u8; 21];
-    product[0] = field::product_by(powers, logarithms, c, fewer[0]);
-    let mut i = 1;
-    while i <= many {
-        let below = fewer[i - 1];
-        let here = fewer[i];
-        product[i] = field::sum(below, field::product_by(powers, logarithms, c, here));
-        i += 1;
+    let mut i = many;
+    while 0 < i {
+        let below = polynomial[i - 1];
+        let here = polynomial[i];
+        polynomial[i] = field::sum(below, field::product_by(powers, logarithms, c, here));
+        i -= 1;
     }
-    product
+    polynomial[0] = field::product_by(powers, logarithms, c, polynomial[0]);
 }
 
-// The generator's coefficients: the generator for one root fewer, times one more factor; for no roots it is 1.
+// The zeros become the generator's coefficients: the generator for one root fewer, times one more factor; for no roots it is 1.
 pub fn generator(
     powers: &[u8; 255],
     logarithms: &[u8; 256],
     roots: &[u8; 20],
     many: usize,
-) -> [u8; 21]
-    requires { ⌜ Powers (now powers) × Logarithms (now logarithms) × Roots (now roots) × (many ≤ 20) ⌝ }
-    ensures { λ r. ⌜ Filled 21 21 (λ i. getD (generator-of many) i 0) r ⌝ }
+    coefficients: &mut [u8; 21],
+)
+    requires { ⌜ Powers (now powers) × Logarithms (now logarithms) × Roots (now roots) × (many ≤ 20) × (now coefficients ≡ replicate 21 0) ⌝ }
+    ensures { λ _. ⌜ Filled 21 21 (λ i. getD (generator-of many) i 0) (now (coefficients .exit)) ⌝ }
 {
     if many == 0 {
-        let mut one = [0u8; 21];
-        one[0] = 1;
-        return one;
+        coefficients[0] = 1;
+        return;
     }
-    let fewer = generator(powers, logarithms, roots, many - 1);
-    times_factor(powers, logarithms, roots[many - 1], &fewer, many)
+    generator(powers, logarithms, roots, many - 1, coefficients);
+    times_factor(powers, logarithms, roots[many - 1], coefficients, many);
 }
 
 // The generator over its lowest coefficient, without that one: what the register feeds back.

@@ -37,48 +37,48 @@ mul-count : tie.Need-mul-count
 mul-count c = let z = bounds (c .before .before .before .before .before) in omega arith
 
 generator-requires : tie.Need-generator-requires
-generator-requires c κs = let z = bounds (c .before .before .before .before .before .before .before .before) in (c .before .before .before .before .before .powers .ensures, c .before .before .before .before .logarithms .ensures, c .before .before .before .roots .ensures, omega arith)
+generator-requires c κs = let z = bounds (c .before .before .before .before .before .before .before .before .before) in (c .before .before .before .before .before .before .powers .ensures, c .before .before .before .before .before .logarithms .ensures, c .before .before .before .before .roots .ensures, omega arith, refl)
 
 feedback-requires : tie.Need-feedback-requires
-feedback-requires c κs = let z = bounds (c .before .before .before .before .before .before .before .before .before .before .before .before) in (c .before .before .before .before .before .before .before .before .before .powers .ensures, c .before .before .before .before .before .before .before .before .logarithms .ensures, omega arith)
+feedback-requires c κs = let z = bounds (c .before .before .before .before .before .before .before .before .before .before .before .before .before) in (c .before .before .before .before .before .before .before .before .before .before .powers .ensures, c .before .before .before .before .before .before .before .before .before .logarithms .ensures, omega arith)
 
 load-requires : tie.Need-load-requires
-load-requires c κs = let z = bounds (c .before .before .before .before .before .before .before .before .before .before .before .before .before) in (z .0, z .2, c .before .before .before .before .before .before .before .before .before .before .before .before .before .pre .1)
+load-requires c κs = let z = bounds (c .before .before .before .before .before .before .before .before .before .before .before .before .before .before) in (z .0, z .2, c .before .before .before .before .before .before .before .before .before .before .before .before .before .before .pre .1)
 
 add-end : tie.Need-add-end
-add-end c = let z = bounds (c .before .before .before .before .before .before .before .before .before .before .before .before .before .before) in omega arith
+add-end c = let z = bounds (c .before .before .before .before .before .before .before .before .before .before .before .before .before .before .before) in omega arith
 
 mul-end : tie.Need-mul-end
-mul-end c = let z = bounds (c .before .before .before .before .before .before .before .before .before .before .before .before .before .before) in omega arith
+mul-end c = let z = bounds (c .before .before .before .before .before .before .before .before .before .before .before .before .before .before .before) in omega arith
 
 array-share-prefix-feedback : tie.Need-array-share-prefix-feedback
-array-share-prefix-feedback c = let z = bounds (c .before .before .before .before .before .before .before .before .before .before .before .before .before .before) in omega (arith, c .before .feedback .ensures .long)
+array-share-prefix-feedback c = let z = bounds (c .before .before .before .before .before .before .before .before .before .before .before .before .before .before .before) in omega (arith, c .before .feedback .ensures .long)
 
 slice-aggregate-divide : tie.Need-slice-aggregate-divide
-slice-aggregate-divide c = let z = bounds (c .before .before .before .before .before .before .before .before .before .before .before .before .before .before .before) in sym (length-take-le _ _ (omega (arith, c .before .before .feedback .ensures .long)))
+slice-aggregate-divide c = let z = bounds (c .before .before .before .before .before .before .before .before .before .before .before .before .before .before .before .before) in sym (length-take-le _ _ (omega (arith, c .before .before .feedback .ensures .long)))
 
 array-borrow-prefix-rows : tie.Need-array-borrow-prefix-rows
-array-borrow-prefix-rows c = let z = bounds (c .before .before .before .before .before .before .before .before .before .before .before .before .before .before .before) in omega (arith, c .before .load .ensures .long)
+array-borrow-prefix-rows c = let z = bounds (c .before .before .before .before .before .before .before .before .before .before .before .before .before .before .before .before) in omega (arith, c .before .load .ensures .long)
 
 slice-aggregate-divide-2 : tie.Need-slice-aggregate-divide-2
-slice-aggregate-divide-2 c = let z = bounds (c .before .before .before .before .before .before .before .before .before .before .before .before .before .before .before .before) in sym (length-take-le _ _ (omega (arith, c .before .before .load .ensures .long)))
+slice-aggregate-divide-2 c = let z = bounds (c .before .before .before .before .before .before .before .before .before .before .before .before .before .before .before .before .before) in sym (length-take-le _ _ (omega (arith, c .before .before .load .ensures .long)))
 
 divide-requires : tie.Need-divide-requires
 divide-requires c κs =
-    let z = bounds (c .before .before .before .before .before .before .before .before .before .before .before .before .before .before .before .before) in
-    let hs = length-take-le (2 * c .before .before .before .before .before .before .before .before .before .before .before .before .before .before .before .before .args .t) (c .before .before .before .feedback .result) (omega (arith, c .before .before .before .feedback .ensures .long)) in
-    let part = length-take-le (8 * (c .before .before .before .before .before .before .before .before .before .before .before .before .before .before .before .before .args .n + 2 * c .before .before .before .before .before .before .before .before .before .before .before .before .before .before .before .before .args .t)) (c .before .before .load .result) (omega (arith, c .before .before .load .ensures .long)) in
+    let z = bounds (c .before .before .before .before .before .before .before .before .before .before .before .before .before .before .before .before .before) in
+    let hs = length-take-le (2 * c .before .before .before .before .before .before .before .before .before .before .before .before .before .before .before .before .before .args .t) (c .before .before .before .feedback .result) (omega (arith, c .before .before .before .feedback .ensures .long)) in
+    let part = length-take-le (8 * (c .before .before .before .before .before .before .before .before .before .before .before .before .before .before .before .before .before .args .n + 2 * c .before .before .before .before .before .before .before .before .before .before .before .before .before .before .before .before .before .args .t)) (c .before .before .load .result) (omega (arith, c .before .before .load .ensures .long)) in
     (z .0, omega arith, omega arith)
 
 slice-aggregate-store : tie.Need-slice-aggregate-store
 slice-aggregate-store c =
-    let f = c .before .before .before .before .before .before .before .before .before .before .before .before .before .before .before .before .before .before .before in
+    let f = c .before .before .before .before .before .before .before .before .before .before .before .before .before .before .before .before .before .before .before .before in
     let z = bounds f in
     whole (8 * (f .args .n + 2 * f .args .t)) (c .before .before .before .before .before .load .result) (c .before .before .divide .last .1 .0) (omega arith) (c .before .before .before .before .before .load .ensures .long) (c .before .before .divide .ensures .long)
 
 store-requires : tie.Need-store-requires
 store-requires c κs =
-    let f = c .before .before .before .before .before .before .before .before .before .before .before .before .before .before .before .before .before .before .before .before in
+    let f = c .before .before .before .before .before .before .before .before .before .before .before .before .before .before .before .before .before .before .before .before .before in
     let z = bounds f in
     let long = whole (8 * (f .args .n + 2 * f .args .t)) (c .before .before .before .before .before .before .load .result) (c .before .before .before .divide .last .1 .0) (omega arith) (c .before .before .before .before .before .before .load .ensures .long) (c .before .before .before .divide .ensures .long) in
     (z .0, omega arith, z .2, subst (λ (k : ℕ). 8 * (f .args .n + 2 * f .args .t) ≤ k) long (omega arith), f .pre .2)
@@ -88,12 +88,12 @@ same-length c = search needs
 
 returns : tie.Need-returns
 returns c =
-    let f = c .before .before .before .before .before .before .before .before .before .before .before .before .before .before .before .before .before .before .before .before .before .before .before in
+    let f = c .before .before .before .before .before .before .before .before .before .before .before .before .before .before .before .before .before .before .before .before .before .before .before .before in
     let z = bounds f in
     let a = f .args in
     checks-put (a .n) (a .t) (a .w) (a .vector .now) (c .before .before .before .before .before .before .before .before .before .before .feedback .result) (c .before .before .before .before .before .before .before .before .before .load .result) (c .before .before .before .before .before .before .divide .last .1 .0) _ (a .output .now) _ (f .pre .0) (f .pre .1)
-    (bytes-every (a .vector .now) (λ i. c .before .before .before .before .before .before .before .before .before .before .before .before .before .before .before .before .before .before .before .before .before .before .shared-slice-known .given i .fits))
-    (feedback-filled (2 * a .t) _ _ (omega arith) (c .before .before .before .before .before .before .before .before .before .before .before .before .before .before .generator .ensures) (c .before .before .before .before .before .before .before .before .before .before .feedback .ensures)) (c .before .before .before .before .before .before .before .before .before .load .ensures) (c .before .before .before .before .before .before .divide .ensures) refl
+    (bytes-every (a .vector .now) (λ i. c .before .before .before .before .before .before .before .before .before .before .before .before .before .before .before .before .before .before .before .before .before .before .before .shared-slice-known .given i .fits))
+    (feedback-filled (2 * a .t) _ _ (omega arith) (c .before .before .before .before .before .before .before .before .before .before .before .before .before .before .generator2 .ensures) (c .before .before .before .before .before .before .before .before .before .before .feedback .ensures)) (c .before .before .before .before .before .before .before .before .before .load .ensures) (c .before .before .before .before .before .before .divide .ensures) refl
     (c .before .before .store .ensures) (f .pre .2) (bytes-every (c .before .before .store .last .1 .1 .1 .1 .0) (λ i. c .slice-known2 .given i .fits))
 
 pub put-checks-spec : {M : Type 1} → statement M

@@ -1,5 +1,4 @@
 -- `generator` meets its contract, by recursion on the number of roots, which is the measure. Assumes nothing.
-use mathlib.Core.Path.{refl}
 use native.Mathlib.Omega.{arith}
 use Rattle.code.proofs.Factors.{generator-none, fewer-above, generator-more}
 use Prim.Native.Nat.{ℕ, _-_, _<_}
@@ -12,23 +11,23 @@ use Rattle.code.proofs.register.times_factor.Reads as times-factor-read
 use Rattle.code.proofs.register.+generator.{statement}
 use Rattle.code.proofs.register.+generator.Tie.{close}
 
-abbrev μ-generator : Measures 3 generator-kinds.ps ℕ
+abbrev μ-generator : Measures 4 generator-kinds.ps ℕ
 μ-generator κs a = a .1 .1 .1 .0
 
-abbrev generator-at : ℕ → In 3 generator-kinds.ps
-generator-at t = and 3 generator-kinds.ps (is 3 generator-kinds.ps μ-generator t) generator.Pre
+abbrev generator-at : ℕ → In 4 generator-kinds.ps
+generator-at t = and 4 generator-kinds.ps (is 4 generator-kinds.ps μ-generator t) generator.Pre
 
-abbrev generator-below : ℕ → In 3 generator-kinds.ps
+abbrev generator-below : ℕ → In 4 generator-kinds.ps
 generator-below t =
-    and 3 generator-kinds.ps (falls 3 generator-kinds.ps _<_ μ-generator t) generator.Pre
+    and 4 generator-kinds.ps (falls 4 generator-kinds.ps _<_ μ-generator t) generator.Pre
 
-generator-array-write-one : (t : ℕ) → generator-lts.Need-array-write-one (
+generator-element-write-coefficients : (t : ℕ) → generator-lts.Need-element-write-coefficients (
   generator-below t,
   generator.Post,
   times-factor-reads.Asked,
   times-factor-reads.Learnt,
 ) (generator-at t) generator.Post
-generator-array-write-one t c = omega arith
+generator-element-write-coefficients t c = omega arith
 
 generator-returns : (t : ℕ) → generator-lts.Need-returns (
   generator-below t,
@@ -36,7 +35,7 @@ generator-returns : (t : ℕ) → generator-lts.Need-returns (
   times-factor-reads.Asked,
   times-factor-reads.Learnt,
 ) (generator-at t) generator.Post
-generator-returns t c = generator-none _ _ (c .if1 .taken) refl refl
+generator-returns t c = generator-none _ _ (c .if1 .taken) (c .before .pre .1 .4)
 
 generator-sub-generator : (t : ℕ) → generator-lts.Need-sub-generator (
   generator-below t,
@@ -53,7 +52,7 @@ generator-generator-requires : (t : ℕ) → generator-lts.Need-generator-requir
   times-factor-reads.Learnt,
 ) (generator-at t) generator.Post
 generator-generator-requires t c κs =
-    let p = c .before .pre in (omega arith, (p .1 .0, p .1 .1, p .1 .2, omega arith))
+    let p = c .before .before .pre in (omega arith, (p .1 .0, p .1 .1, p .1 .2, omega arith, p .1 .4))
 
 generator-sub-times-factor : (t : ℕ) → generator-lts.Need-sub-times-factor (
   generator-below t,
@@ -79,9 +78,10 @@ generator-times-factor-requires : (t : ℕ) → generator-lts.Need-times-factor-
   times-factor-reads.Learnt,
 ) (generator-at t) generator.Post
 generator-times-factor-requires t c κs =
-    let s = c .before .before .before .before in
+    let s = c .before .before .before .before .before in
     let p = s .pre .1 in
-    (p .0, p .1, p .3, λ i h. fewer-above (s .args .many - 1) _ (omega arith) (c .before .before .generator .ensures) i (omega arith))
+    let f = c .before .before .generator .ensures in
+    (p .0, p .1, p .3, f .long, λ i h. fewer-above (s .args .many - 1) _ (omega arith) f i (omega arith))
 
 generator-returns-2 : (t : ℕ) → generator-lts.Need-returns-2 (
   generator-below t,
@@ -90,7 +90,7 @@ generator-returns-2 : (t : ℕ) → generator-lts.Need-returns-2 (
   times-factor-reads.Learnt,
 ) (generator-at t) generator.Post
 generator-returns-2 t c =
-    let s = c .before .before .before .before .before in
+    let s = c .before .before .before .before .before .before in
     generator-more (s .args .many - 1) _ _ _ _ (omega arith) (s .pre .1 .3) (s .pre .1 .2 .entry (s .args .many - 1) (omega arith))
     (c .before .before .before .generator .ensures) (c .times-factor .ensures)
 
@@ -103,7 +103,7 @@ pub +generator-spec : {M : Type 1} → statement M
 )
     (generator-at t)
     generator.Post
-    (generator-array-write-one t)
+    (generator-element-write-coefficients t)
     (generator-returns t)
     (generator-sub-generator t)
     (generator-generator-requires t)
