@@ -18,7 +18,7 @@ use Rattle.code.specs.Settings.{Settings, check-count}
 use Rattle.code.specs.Array.{Written}
 use Rattle.code.specs.Lanes.{lane}
 use Rattle.code.proofs.Written.{all-zero, zero-at}
-use Rattle.repair.specs.Errors.{exponent, error-sum}
+use Rattle.repair.specs.Errors.{place-exponent, exponent, error-sum}
 use Rattle.repair.specs.Rows.{Zeros-as, Error-sums, residue, Explained-as}
 use Rattle.repair.proofs.Terms.{Terms-added}
 use Rattle.repair.proofs.Totals.{error-sum-append}
@@ -41,14 +41,15 @@ unfolding lane error-sum
 error-sums-none n count weighted sums e z = record { long = e; each = λ s a b i p h l. zero-at sums z (8 * i + p) }
 
 pub error-sums-more :
-    (j e n count : ℕ) (weighted row sums now : List ℕ) → ((s : Settings) → s .n ≡ n → check-count s ≡ count → e ≡ exponent s j) →
+    (j e n count : ℕ) (weighted row sums now : List ℕ) → e ≡ place-exponent n count j →
     Error-sums j n count weighted sums → ((p : ℕ) → p < 8 → getD row p 0 ≡ getD weighted (8 * j + p) 0) → Terms-added count (λ i. power 2 (0 + i * e)) row sums now →
     Error-sums (j + 1) n count weighted now
+unfolding exponent
 error-sums-more j e n count weighted row sums now q s r t =
     record {
       long = t .long ∙ s .long;
       each = λ g a b i p h l.
-          t .terms i p h l ∙ ap₂ plus (s .each g a b i p h l) (ap₂ (λ (x k : ℕ). times x (power 2 (0 + i * k))) (r p l) (q g a b))
+          t .terms i p h l ∙ ap₂ plus (s .each g a b i p h l) (ap₂ (λ (x k : ℕ). times x (power 2 (0 + i * k))) (r p l) (q ∙ ap₂ (λ (m k : ℕ). place-exponent m k j) (sym a) (sym b)))
           ∙ sym
           (ap (error-sum g i 0) (ap (λ (k : ℕ). lane p k weighted) (add-one j) ∙ lane-more p j weighted)
           ∙ error-sum-append g i 0 j (lane p j weighted) _ (omega (arith, lane-length p j weighted))

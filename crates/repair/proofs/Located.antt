@@ -19,11 +19,10 @@ use Rattle.code.specs.Vector.{plane, is-vector}
 use Rattle.code.proofs.Polynomial.{eval-ext, getD-scaled, length-scaled, bytes-scaled}
 use Rattle.code.proofs.Vector.{Values, vector-back, plane-length}
 use Rattle.repair.specs.Locator.{massey, value}
-use Rattle.repair.specs.Errors.{error-byte, Located, Error-bytes}
-use Rattle.repair.specs.Search.{place-exponent, Place-powers, Evaluated, Lane-written, column-errors}
+use Rattle.repair.specs.Errors.{place-exponent, error-byte, Located, Error-bytes}
+use Rattle.repair.specs.Search.{Place-powers, Evaluated, Lane-written, column-errors}
 use Rattle.code.proofs.Lane.{lane-length, lane-at, lane-is}
-use Rattle.repair.proofs.Places.{exponent-column}
-use Rattle.repair.proofs.PlacePowers.{place-exponent-settings}
+use Rattle.repair.proofs.Places.{place-exponent-settings, exponent-column}
 use Rattle.repair.proofs.ColumnErrors.{column-errors-length}
 
 -- the places themselves are their first powers

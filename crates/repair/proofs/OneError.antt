@@ -20,10 +20,10 @@ use Rattle.code.specs.Settings.{Settings, check-count}
 use Rattle.code.specs.Lanes.{lane}
 use Rattle.code.proofs.Lane.{lane-length, lane-at, lane-is}
 use Rattle.code.proofs.Written.{all-zero, zero-at}
-use Rattle.repair.specs.Errors.{exponent, wrong-places, error-sum, Explained}
-use Rattle.repair.specs.Search.{place-exponent, Geometric-as, Single-at}
+use Rattle.repair.specs.Errors.{place-exponent, exponent, wrong-places, error-sum, Explained}
+use Rattle.repair.specs.Search.{Geometric-as, Single-at}
 use Rattle.repair.specs.Planes.{plane-sums, Explains, Decoded-as}
-use Rattle.repair.proofs.PlacePowers.{place-exponent-settings, place-exponent-column, place-exponent-check}
+use Rattle.repair.proofs.Places.{place-exponent-settings, place-exponent-column, place-exponent-check}
 
 -- the place of a power of 2
 module _ (n checks e x : ℕ) (power-is : power 2 e ≡ x) where

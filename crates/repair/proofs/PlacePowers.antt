@@ -1,7 +1,7 @@
 -- The powers of places as progressions of exponents. Powers of 2 repeat after 255, so a step down is a step of 255 less: the
 -- m-th powers of falling exponents are 2 to a progression, from the columns' first exponent and from the checks' first. A weight's
 -- inverse rises by the weight's own exponent from column to column. Assumes nothing.
-use mathlib.Core.Path.{_≡_, refl, sym, _∙_, ap, ap₂}
+use mathlib.Core.Path.{_≡_, sym, _∙_, ap, ap₂}
 use mathlib.Core.List.{List, _++_}
 use Prim.Native.Nat.{ℕ, zero, suc, _+_, _*_, _-_, _%_, _<_, _≤_}
 use native.Mathlib.Omega.{arith}
@@ -9,27 +9,13 @@ use native.Mathlib.Decide.{decLt}
 use native.Mathlib.Nat.{mul-comm, add-mul}
 use lib.ListN.{length, getD, take, drop, length-drop, length-append, List·getD-append}
 use lib.Seq.{length-take-le, length-front, take-at, getD-append-add}
-use borrow.Author.Tests.{lt-ltb, le-ltb}
 use Rattle.field.specs.Field.{times, power, inverse}
 use Rattle.field.proofs.Power.{power-add, power-mul, power-mod, power-past}
 use Rattle.code.specs.Array.{Filled}
-use Rattle.code.specs.Settings.{Settings, check-count}
-use Rattle.repair.specs.Errors.{exponent}
-use Rattle.repair.specs.Search.{place-exponent, Place-powers}
+use Rattle.repair.specs.Errors.{place-exponent}
+use Rattle.repair.specs.Search.{Place-powers}
 use Rattle.repair.proofs.PlaceRows.{part-long}
-
--- exponents
-pub place-exponent-settings : (s : Settings) (j : ℕ) → exponent s j ≡ place-exponent (s .n) (check-count s) j
-unfolding exponent place-exponent
-place-exponent-settings s j = refl
-
-pub place-exponent-column : (n checks j : ℕ) → j < n → place-exponent n checks j ≡ 254 - j
-unfolding place-exponent
-place-exponent-column n checks j h = rw (lt-ltb j n h)
-
-pub place-exponent-check : (n checks j : ℕ) → n ≤ j → place-exponent n checks j ≡ n + checks - suc j
-unfolding place-exponent
-place-exponent-check n checks j h = rw (le-ltb j n h)
+use Rattle.repair.proofs.Places.{place-exponent-column, place-exponent-check}
 
 -- falling exponents
 power-rounds : (i k : ℕ) → power 2 (i + 255 * k) ≡ power 2 i

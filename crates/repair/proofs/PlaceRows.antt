@@ -19,8 +19,8 @@ use Rattle.code.specs.Lanes.{lane, Products-added}
 use Rattle.code.proofs.Polynomial.{eval-append, eval-single}
 use Rattle.code.proofs.Written.{all-zero, zero-at}
 use Rattle.repair.specs.Locator.{value}
-use Rattle.repair.specs.Errors.{wrong-places}
-use Rattle.repair.specs.Search.{place-exponent, Place-powers, Evaluated, Lane-written}
+use Rattle.repair.specs.Errors.{place-exponent, wrong-places}
+use Rattle.repair.specs.Search.{Place-powers, Evaluated, Lane-written}
 use Rattle.code.proofs.Lane.{lane-length, lane-more}
 use Rattle.repair.proofs.Totals.{wrong-places-append}
 

@@ -15,16 +15,26 @@ use Rattle.code.proofs.Place.{Place, nonzero}
 use Rattle.code.proofs.PowerSum.{power-sum}
 use Rattle.code.proofs.Errors.{errors}
 use Rattle.code.proofs.Word.{Sizes, Shape, word-errors}
-use Rattle.repair.specs.Errors.{exponent, wrong-places, error-sum}
+use Rattle.repair.specs.Errors.{place-exponent, exponent, wrong-places, error-sum}
 
 -- columns and checks
-pub exponent-column : (s : Settings) (j : ℕ) → j < s .n → exponent s j ≡ 254 - j
+pub place-exponent-settings : (s : Settings) (j : ℕ) → exponent s j ≡ place-exponent (s .n) (check-count s) j
 unfolding exponent
-exponent-column s j h = rw (lt-ltb j (s .n) h)
+place-exponent-settings s j = refl
+
+pub place-exponent-column : (n checks j : ℕ) → j < n → place-exponent n checks j ≡ 254 - j
+unfolding place-exponent
+place-exponent-column n checks j h = rw (lt-ltb j n h)
+
+pub place-exponent-check : (n checks j : ℕ) → n ≤ j → place-exponent n checks j ≡ n + checks - suc j
+unfolding place-exponent
+place-exponent-check n checks j h = rw (le-ltb j n h)
+
+pub exponent-column : (s : Settings) (j : ℕ) → j < s .n → exponent s j ≡ 254 - j
+exponent-column s j h = place-exponent-settings s j ∙ place-exponent-column (s .n) (check-count s) j h
 
 pub exponent-check : (s : Settings) (c : ℕ) → exponent s (s .n + c) ≡ check-count s - suc c
-unfolding exponent
-exponent-check s c = rw (le-ltb (s .n + c) (s .n) (omega arith)) (omega arith)
+exponent-check s c = place-exponent-settings s (s .n + c) ∙ place-exponent-check (s .n) (check-count s) (s .n + c) (omega arith) ∙ omega arith
 
 pub by-place :
     (s : Settings) (P : ℕ → Type 0) → ((j : ℕ) → j < s .n → P j) → ((c : ℕ) → c < check-count s → P (s .n + c)) →

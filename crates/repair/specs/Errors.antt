@@ -10,9 +10,12 @@ use Rattle.field.specs.Field.{plus, times, power, inverse}
 use Rattle.code.specs.Settings.{Settings, check-count}
 use Rattle.repair.specs.Locator.{massey, value}
 
--- place j is 2 to this power: the columns 1 to n, then the checks 1 to 2t
+-- place j of n columns and so many checks is 2 to this power: first the columns, then the checks
+unfoldable pub place-exponent : (n checks j : ℕ) → ℕ
+place-exponent n checks j = cond (ltb j n) (254 - j) (n + checks - suc j)
+
 unfoldable pub exponent : Settings → (j : ℕ) → ℕ
-exponent s j = cond (ltb j (s .n)) (254 - j) (s .n + check-count s - suc j)
+exponent s j = place-exponent (s .n) (check-count s) j
 
 -- a weighted error is the byte's error times the 120th power of its place
 unfoldable pub error-byte : Settings → (j weighted : ℕ) → ℕ

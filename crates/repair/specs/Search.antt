@@ -1,18 +1,14 @@
 -- What stands in rows of eight planes when all places are searched: row j's byte of plane p stands at 8j + p, and row j is that
 -- of place j, first the columns, then the checks. Assumes nothing: these are definitions.
 use mathlib.Core.Path.{_≡_}
-use mathlib.Core.Bool.{Bool, true, false, cond}
+use mathlib.Core.Bool.{Bool, true, false}
 use mathlib.Core.List.{List, [], _∷_}
 use Prim.Native.Nat.{ℕ, zero, suc, _+_, _*_, _-_, _≤_, _<_}
-use lib.Dec.{ltb}
 use lib.ListN.{length, getD, take, drop}
 use Rattle.field.specs.Field.{times, power, inverse}
 use Rattle.code.specs.Polynomial.{eval, scaled}
 use Rattle.code.specs.Lanes.{lane}
-
--- place j of n columns and so many checks is 2 to this power: `exponent` over plain numbers
-unfoldable pub place-exponent : (n checks j : ℕ) → ℕ
-place-exponent n checks j = cond (ltb j n) (254 - j) (n + checks - suc j)
+use Rattle.repair.specs.Errors.{place-exponent}
 
 -- whether each of the first sums of plane p but the first is x times the one before it, and where not, one that is not
 unfoldable pub Geometric-as : (answer : Bool) → (p x many : ℕ) → (sums : List ℕ) → Type 0

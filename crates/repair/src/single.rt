@@ -5,7 +5,8 @@ ghost use Prim.Native.Nat.{_+_, _*_, _≤_, _<_};
 ghost use lib.ListN.{length};
 ghost use Rattle.field.specs.Field.{power};
 ghost use Rattle.field.specs.Table.{Powers, Logarithms};
-ghost use Rattle.repair.specs.Search.{place-exponent, Geometric-as, Single-at};
+ghost use Rattle.repair.specs.Errors.{place-exponent};
+ghost use Rattle.repair.specs.Search.{Geometric-as, Single-at};
 
 // The place that is x, or where none is, one past the last.
 fn place_of(logarithms: &[u8; 256], x: u8, n: usize, count: usize) -> usize

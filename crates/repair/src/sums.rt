@@ -10,7 +10,7 @@ ghost use Rattle.code.specs.Array.{Filled, Written};
 ghost use Rattle.code.specs.Lanes.{Products-added};
 ghost use Rattle.code.specs.Polynomial.{root};
 ghost use Rattle.code.specs.Settings.{Settings, check-count};
-ghost use Rattle.repair.specs.Errors.{exponent};
+ghost use Rattle.repair.specs.Errors.{place-exponent};
 ghost use Rattle.repair.specs.Rows.{Any, Zeros-as, Values-added, Root-logarithms, Check-sums, Error-sums, Explained-as};
 
 // The `or` of the first bytes: 0 only where they all are.
@@ -148,7 +148,7 @@ pub fn syndromes(
 // The exponent of place j: the columns, then the checks.
 fn place_exponent(n: usize, count: usize, j: usize) -> usize
     requires { ⌜ (n ≤ 32) × (count ≤ 20) × (j < n + count) ⌝ }
-    ensures { λ r. ⌜ (r < 255) × ((s : Settings) → s .n ≡ n → check-count s ≡ count → r ≡ exponent s j) ⌝ }
+    ensures { λ r. ⌜ (r < 255) × (r ≡ place-exponent n count j) ⌝ }
 {
     if j < n {
         return 254 - j;
