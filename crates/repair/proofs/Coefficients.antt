@@ -1,12 +1,11 @@
 -- Arrays that hold polynomials. Two lists are the same polynomial where they agree at every coefficient; raising, multiples and
--- sums keep that, so a sum worked out on arrays holds the sum of the lists that they hold. A turn of a loop that adds or that
--- stores changes one coefficient. Assumes nothing.
-use mathlib.Core.Path.{_≡_, refl, sym, _∙_, ap, ap₂}
+-- sums keep that, so a sum worked out on arrays holds the sum of the lists that they hold. A turn of a loop that adds, or that
+-- makes an array anew from its last coefficient down, changes one coefficient. Assumes nothing.
+use mathlib.Core.Path.{_≡_, refl, sym, _∙_, ap, ap₂, subst}
 use mathlib.Core.List.{List, [], _∷_, _++_}
-use Prim.Native.Nat.{ℕ, zero, suc, _+_, _<_, _≤_}
+use Prim.Native.Nat.{ℕ, zero, suc, _+_, _-_, _<_, _≤_}
 use native.Mathlib.Omega.{arith}
 use native.Mathlib.Decide.{ℕ-discrete, decLt}
-use native.Mathlib.Nat.{zero-add, suc-add}
 use lib.ListN.{length, getD, take, drop, set, replicate, length-set, length-take, take-append-drop, List·getD-eq-default}
 use lib.Seq.{getD-set-same, getD-set-other, getD-take, ext-getD, length-take-le}
 use Rattle.field.specs.Field.{plus, times}
@@ -18,12 +17,13 @@ use Rattle.code.proofs.Polynomial.{getD-added, getD-scaled, bytes-scaled, lengt
 use Rattle.repair.specs.Locator.{raised}
 use Rattle.repair.specs.Held.{Holds}
 use Rattle.repair.proofs.Monic.{raised-length}
+use Rattle.repair.proofs.Steps.{raised-low, raised-high}
 
 -- one polynomial: zeros at the end change nothing
-abbrev Same : (p q : List ℕ) → Type 0
+abbrev pub Same : (p q : List ℕ) → Type 0
 Same p q = (i : ℕ) → getD p i 0 ≡ getD q i 0
 
-same-raised : (s : ℕ) (p q : List ℕ) → Same p q → Same (raised s p) (raised s q)
+pub same-raised : (s : ℕ) (p q : List ℕ) → Same p q → Same (raised s p) (raised s q)
 unfolding raised
 same-raised zero p q e i = e i
 same-raised (suc s) p q e zero = refl
@@ -100,48 +100,59 @@ added-turn c zero (x ∷ p) (y ∷ q) h l = ap (λ (r : List ℕ). plus x (times
 added-turn c (suc i) (x ∷ p) (y ∷ q) h l =
     ap (λ (r : List ℕ). plus x (times c y) ∷ r) (added-turn c i p q (omega arith) (omega arith))
 
--- an array of zeros holds nothing, at any height
+-- an array of zeros holds nothing
 pub zeros-at : (n i : ℕ) → getD {A = ℕ} (replicate n 0) i 0 ≡ 0
 zeros-at zero i = refl
 zeros-at (suc n) zero = refl
 zeros-at (suc n) (suc i) = zeros-at n i
 
-raised-none : (s i : ℕ) → getD (raised s []) i 0 ≡ 0
-unfolding raised
-raised-none zero i = refl
-raised-none (suc s) zero = refl
-raised-none (suc s) (suc i) = raised-none s i
+pub holds-none : Holds (replicate 32 0) []
+holds-none = record { long = refl; at = zeros-at 32 }
 
-pub holds-none : (s : ℕ) → Holds (replicate 32 0) (raised s [])
-holds-none s = record { long = refl; at = λ i. zeros-at 32 i ∙ sym (raised-none s i) }
-
--- one more coefficient stored, at its raised place
-raised-at-last : (s i : ℕ) (p : List ℕ) → getD (raised s (take (suc i) p)) (s + i) 0 ≡ getD p i 0
-unfolding raised
-raised-at-last zero i p = rw (zero-add i) (getD-take (suc i) p i 0 (omega arith))
-raised-at-last (suc s) i p = rw (suc-add s i) (raised-at-last s i p)
-
-take-at-other : (i j : ℕ) (p : List ℕ) → (j ≡ i → ⊥) → getD (take (suc i) p) j 0 ≡ getD (take i p) j 0
-take-at-other zero j [] n = refl
-take-at-other (suc i) j [] n = refl
-take-at-other zero zero (x ∷ p) n = absurd (n refl)
-take-at-other zero (suc j) (x ∷ p) n = refl
-take-at-other (suc i) zero (x ∷ p) n = refl
-take-at-other (suc i) (suc j) (x ∷ p) n = take-at-other i j p (λ e. n (ap suc e))
-
-raised-at-other :
-    (s i j : ℕ) (p : List ℕ) → (j ≡ s + i → ⊥) → getD (raised s (take (suc i) p)) j 0 ≡ getD (raised s (take i p)) j 0
-unfolding raised
-raised-at-other zero i j p n = take-at-other i j p (λ e. n (omega arith))
-raised-at-other (suc s) i zero p n = refl
-raised-at-other (suc s) i (suc j) p n = raised-at-other s i j p (λ e. n (omega arith))
-
-pub holds-stored :
-    (s i : ℕ) (p o : List ℕ) → s + i < 32 → Holds o (raised s (take i p)) →
-    Holds (set o (s + i) (getD p i 0)) (raised s (take (suc i) p))
-holds-stored s i p o h f =
-    record { long = length-set o (s + i) (getD p i 0) ∙ f .long; at = λ j. go j (ℕ-discrete j (s + i)) }
+-- raising reads no coefficient above
+pub raised-below :
+    (s i n : ℕ) (p q : List ℕ) → i < n → ((j : ℕ) → j < n → getD p j 0 ≡ getD q j 0) → getD (raised s p) i 0 ≡ getD (raised s q) i 0
+raised-below s i n p q h e = go (decLt i s)
   where
-    go : (j : ℕ) → Dec (j ≡ s + i) → getD (set o (s + i) (getD p i 0)) j 0 ≡ getD (raised s (take (suc i) p)) j 0
-    go j (yes q) = rw q (getD-set-same o (s + i) (getD p i 0) 0 (omega (arith, f .long)) ∙ sym (raised-at-last s i p))
-    go j (no q) = getD-set-other o (s + i) j (getD p i 0) 0 q ∙ f .at j ∙ sym (raised-at-other s i j p q)
+    go : Dec (i < s) → getD (raised s p) i 0 ≡ getD (raised s q) i 0
+    go (yes k) = raised-low s i p k ∙ sym (raised-low s i q k)
+    go (no k) = raised-high s i p (omega arith) ∙ e (i - s) (omega arith) ∙ sym (raised-high s i q (omega arith))
+
+-- the coefficients from i up to m are those of f, and every other is kept
+pub record Remade (m i : ℕ) (f : ℕ → ℕ) (old now : List ℕ) : Type 0 where
+  pub long : length now ≡ length old
+  pub new : (j : ℕ) → i ≤ j → j < m → getD now j 0 ≡ f j
+  pub below : (j : ℕ) → j < i → getD now j 0 ≡ getD old j 0
+  pub above : (j : ℕ) → m ≤ j → getD now j 0 ≡ getD old j 0
+
+pub remade-none : (m : ℕ) (f : ℕ → ℕ) (p : List ℕ) → Remade m m f p p
+remade-none m f p = record { long = refl; new = λ j h l. absurd (omega arith); below = λ j h. refl; above = λ j h. refl }
+
+pub remade-more :
+    (m i v : ℕ) (f : ℕ → ℕ) (old now : List ℕ) → Remade m i f old now → 0 < i → i ≤ m → m ≤ length old → v ≡ f (i - 1) →
+    Remade m (i - 1) f old (set now (i - 1) v)
+remade-more m i v f old now w h k l e =
+    record {
+      long = length-set now (i - 1) v ∙ w .long;
+      new = λ j a b. go j a b (ℕ-discrete j (i - 1));
+      below = λ j a. getD-set-other now (i - 1) j v 0 (omega arith) ∙ w .below j (omega arith);
+      above = λ j a. getD-set-other now (i - 1) j v 0 (omega arith) ∙ w .above j a;
+    }
+  where
+    go : (j : ℕ) → i - 1 ≤ j → j < m → Dec (j ≡ i - 1) → getD (set now (i - 1) v) j 0 ≡ f j
+    go j a b (yes q) = rw q (getD-set-same now (i - 1) v 0 (omega (arith, w .long)) ∙ e)
+    go j a b (no q) = getD-set-other now (i - 1) j v 0 q ∙ w .new j (omega arith) b
+
+pub remade-all : {m i : ℕ} {f : ℕ → ℕ} {old now : List ℕ} → i ≡ 0 → Remade m i f old now → Remade m 0 f old now
+remade-all {m} {i} {f} {old} {now} e w = subst (λ (n : ℕ). Remade m n f old now) e w
+
+-- all remade, where neither the old list nor the new one goes past m
+pub holds-remade :
+    (m : ℕ) (f : ℕ → ℕ) (a b p q : List ℕ) → Holds a p → Remade m 0 f a b → length p ≤ m → length q ≤ m →
+    ((j : ℕ) → f j ≡ getD q j 0) → Holds b q
+holds-remade m f a b p q o w l k e = record { long = w .long ∙ o .long; at = λ j. go j (decLt j m) }
+  where
+    go : (j : ℕ) → Dec (j < m) → getD b j 0 ≡ getD q j 0
+    go j (yes h) = w .new j (omega arith) h ∙ e j
+    go j (no h) =
+        w .above j (omega arith) ∙ o .at j ∙ List·getD-eq-default p 0 (omega arith) ∙ sym (List·getD-eq-default q 0 (omega arith))

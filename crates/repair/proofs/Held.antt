@@ -6,16 +6,17 @@ use mathlib.Core.List.{List, [], _∷_, _++_}
 use Prim.Native.Nat.{ℕ, zero, suc, _+_, _*_, _-_, _<_, _≤_}
 use native.Mathlib.Omega.{arith}
 use lib.ListN.{getD, take, drop, replicate, length-take}
-use Rattle.field.specs.Field.{inverse}
+use Rattle.field.specs.Field.{plus, times, inverse}
 use Rattle.field.proofs.Division.{inverse-lt}
 use Rattle.code.specs.Polynomial.{added, scaled}
 use Rattle.code.proofs.Bytes.{byte-at, bytes-every}
+use Rattle.code.proofs.Polynomial.{getD-added, getD-scaled, bytes-scaled, length-added, length-scaled}
 use Rattle.repair.specs.Locator.{State, against, raised, start, longer, as-long, changed, massey}
-use Rattle.repair.specs.Held.{Holds, Stands, Fitting, Carries}
+use Rattle.repair.specs.Held.{Holds, Stands, Fitting, Carries, located}
 use Rattle.repair.specs.declared.locator.Locator.{Locator}
-use Rattle.repair.proofs.Monic.{raised-bytes}
+use Rattle.repair.proofs.Monic.{raised-length, raised-bytes}
 use Rattle.repair.proofs.Shape.{changed-none, changed-longer, changed-as-long, massey-shape, locator-length, locator-bytes}
-use Rattle.repair.proofs.Coefficients.{holds-take, holds-bytes, holds-added, added-middle, zeros-at, holds-none}
+use Rattle.repair.proofs.Coefficients.{holds-take, holds-bytes, same-raised, holds-added, added-middle, zeros-at, holds-none, Remade, holds-remade}
 
 pub massey-fitting : (S : ℕ → ℕ) (k : ℕ) → Fitting k (massey S k)
 massey-fitting S k =
@@ -30,26 +31,31 @@ stands-part k r z s f l =
 -- the two steps on arrays
 module _ (k d : ℕ) (h : d < 256) (r : Locator) where
   pub carries-longer :
-      (a b c : List ℕ) → 2 * r .size ≤ k → k < 31 → Holds a (raised (k + 1 - 2 * r .size) (take (r .size + 1) (r .locator))) →
-      b ≡ added a (scaled d (take (k + 1 - r .size) (r .before))) →
-      c ≡ added (replicate 32 0) (scaled (inverse d) (take (r .size + 1) (r .locator))) →
-      Carries k (longer k d) r (record { locator = b; before = c; size = k + 1 - r .size })
-  unfolding longer raised added
-  carries-longer a b c m l o e i z s f =
+      (a b : List ℕ) → 2 * r .size ≤ k → k < 31 →
+      Remade (k + 2 - r .size) 0 (λ j. plus (getD (raised (k + 1 - 2 * r .size) (r .locator)) j 0) (times d (getD (r .before) j 0))) (r .locator) a →
+      Remade (k + 2 - r .size) 0 (λ j. times (inverse d) (getD (r .locator) j 0)) (r .before) b →
+      Carries k (longer k d) r (located a b (k + 1 - r .size))
+  unfolding longer
+  carries-longer a b m l v w z s f =
       let g = s .size in
       let t = f .before in
       let u = f .locator in
-      let shift : k + 1 - 2 * r .size ≡ suc k - 2 * z .size = omega arith in
+      let n = suc k - 2 * z .size in
+      let p = raised n (z .locator) in
+      let q = scaled d (z .before) in
+      let shift : k + 1 - 2 * r .size ≡ n = omega arith in
       record {
         locator =
-            subst (λ (p : List ℕ). Holds p (added (raised (suc k - 2 * z .size) (z .locator)) (scaled d (z .before)))) (sym e)
-            (holds-added d 0 (k + 1 - r .size) h a (r .before) (raised (suc k - 2 * z .size) (z .locator)) (z .before)
-            (raised-bytes (suc k - 2 * z .size) (z .locator) (bytes-every (z .locator) (f .bytes)))
-            (subst (λ (p : List ℕ). Holds a p) (ap₂ raised shift (stands-part k r z s f (omega arith))) o) (s .before) (omega arith) (omega arith));
+            holds-remade (k + 2 - r .size) _ (r .locator) a (z .locator) (added p q) (s .locator) v (omega arith)
+            (rw (length-added p q (rw (length-scaled, raised-length) (omega arith)), raised-length) (omega arith))
+            (λ j.
+            ap₂ plus (ap (λ (i : ℕ). getD (raised i (r .locator)) j 0) shift ∙ same-raised n (r .locator) (z .locator) (s .locator .at) j)
+            (ap (times d) (s .before .at j) ∙ sym (getD-scaled d (z .before) j h))
+            ∙ sym (getD-added p q j (raised-bytes n (z .locator) (bytes-every (z .locator) (f .bytes))) (bytes-scaled d _)));
         before =
-            subst (λ (p : List ℕ). Holds p (scaled (inverse d) (z .locator))) (sym i)
-            (holds-added (inverse d) 0 (r .size + 1) (inverse-lt d) (replicate 32 0) (r .locator) [] (z .locator) tt (holds-none 0) (s .locator)
-            (omega arith) (omega arith));
+            holds-remade (k + 2 - r .size) _ (r .before) b (z .before) (scaled (inverse d) (z .locator)) (s .before) w (omega arith)
+            (rw length-scaled (omega arith))
+            (λ j. ap (times (inverse d)) (s .locator .at j) ∙ sym (getD-scaled (inverse d) (z .locator) j (inverse-lt d)));
         size = omega arith;
       }
 
@@ -58,7 +64,7 @@ module _ (k d : ℕ) (h : d < 256) (r : Locator) where
       a ≡ take (2 * r .size - (k + 1)) (r .locator) ++
       (added (take n (drop (2 * r .size - (k + 1)) (r .locator))) (scaled d (take (k + 1 - r .size) (r .before)))
       ++ drop n (drop (2 * r .size - (k + 1)) (r .locator))) →
-      Carries k (as-long k d) r (record { locator = a; before = r .before; size = r .size })
+      Carries k (as-long k d) r (located a (r .before) (r .size))
   unfolding as-long
   carries-as-long n a g m l w e z s f =
       let j = s .size in
@@ -78,6 +84,11 @@ module _ (k d : ℕ) (h : d < 256) (r : Locator) where
         before = s .before;
         size = j;
       }
+
+-- the arrays and the size by what they equal
+pub stands-as :
+    {a b c d : List ℕ} {m n : ℕ} {z : State} → a ≡ c → b ≡ d → m ≡ n → Stands (located c d n) z → Stands (located a b m) z
+stands-as p q e s = rw p (rw q (rw e s))
 
 -- what the arrays say after k power sums
 pub found-size : (S : ℕ → ℕ) (k : ℕ) (r : Locator) → Stands r (massey S k) → r .size ≤ k
@@ -111,9 +122,9 @@ module _
       next o (rw (changed-as-long k d (massey S k) n (omega (arith, s .size))) (c (massey S k) s (massey-fitting S k)))
 
 -- before the first power sum
-pub stands-start : (S : ℕ → ℕ) → Stands (record { locator = 1 ∷ replicate 31 0; before = replicate 32 0; size = 0 }) (massey S 0)
-unfolding massey start raised
-stands-start S = record { locator = record { long = refl; at = one }; before = holds-none 0; size = refl }
+pub stands-start : (S : ℕ → ℕ) → Stands (located (1 ∷ replicate 31 0) (replicate 32 0) 0) (massey S 0)
+unfolding massey start
+stands-start S = record { locator = record { long = refl; at = one }; before = holds-none; size = refl }
   where
     one : (i : ℕ) → getD {A = ℕ} (1 ∷ replicate 31 0) i 0 ≡ getD (1 ∷ []) i 0
     one zero = refl

@@ -11,6 +11,10 @@ pub record Holds (array list : List ℕ) : Type 0 where
   pub long : length array ≡ 32
   pub at : (i : ℕ) → getD array i 0 ≡ getD list i 0
 
+-- two arrays and a size as one
+abbrev pub located : (locator before : List ℕ) → (size : ℕ) → Locator
+located locator before size = record { locator = locator; before = before; size = size }
+
 -- the arrays and the size are those of a state
 pub record Stands (found : Locator) (state : State) : Type 0 where
   pub locator : Holds (found .locator) (state .locator)

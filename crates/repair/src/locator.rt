@@ -2,12 +2,12 @@
 //
 // A polynomial is its coefficients, lowest power first. Every function takes the field's two tables as a loan.
 ghost use mathlib.Core.Path.{_≡_};
-ghost use Prim.Native.Nat.{_+_, _*_, _<_, _≤_};
+ghost use Prim.Native.Nat.{_+_, _*_, _-_, _<_, _≤_};
 ghost use lib.ListN.{length, getD, take};
 ghost use Rattle.field.specs.Table.{Powers, Logarithms};
 ghost use Rattle.code.specs.Polynomial.{added, «scaled»};
 ghost use Rattle.repair.specs.Locator.{against, «raised», value, massey, longer, «as-long»};
-ghost use Rattle.repair.specs.Held.{Holds, Stands, Carries};
+ghost use Rattle.repair.specs.Held.{Stands, Carries, located};
 
 // The locator, monic of degree `size`, and the last one before it grew, scaled to discrepancy 1. Coefficients past theirs are 0.
 pub struct Locator {
@@ -75,18 +75,15 @@ pub fn error_at(
     0
 }
 
-// The polynomial times x^shift.
-fn raise(polynomial: &[u8], shift: usize) -> [u8; 32]
-    requires { ⌜ shift + length (now polynomial) ≤ 32 ⌝ }
-    ensures { λ r. ⌜ Holds r (raised shift (now (polynomial .entry))) ⌝ }
+// The coefficient of x^i in the polynomial times x^shift.
+fn raised_at(polynomial: &[u8; 32], shift: usize, i: usize) -> u8
+    requires { ⌜ (length (now polynomial) ≡ 32) × (i < 32) ⌝ }
+    ensures { λ r. ⌜ r ≡ getD (raised shift (now (polynomial .entry))) i 0 ⌝ }
 {
-    let mut result = [0u8; 32];
-    let mut i = 0;
-    while i < polynomial.len() {
-        result[shift + i] = polynomial[i];
-        i += 1;
+    if shift <= i {
+        return polynomial[i - shift];
     }
-    result
+    0
 }
 
 // Adds `factor` times the other polynomial.
@@ -111,57 +108,53 @@ fn add_scaled(
     }
 }
 
-// The state after a discrepancy at k that makes the locator longer: x^(k + 1 - 2 size) times the locator, and a multiple of
-// the one before it.
+// A discrepancy at k that makes the locator longer: x^(k + 1 - 2 size) times the locator, and a multiple of the one before it.
+// Both arrays change from the last coefficient down, so that a turn reads only coefficients that are still the old ones.
 fn lengthen(
     powers: &[u8; 255],
     logarithms: &[u8; 256],
-    state: Locator,
+    locator: &mut [u8; 32],
+    before: &mut [u8; 32],
+    size: usize,
     k: usize,
     discrepancy: u8,
-) -> Locator
+)
     requires { ⌜ Powers (now powers) × Logarithms (now logarithms) ⌝ }
-    requires { ⌜ (length (state .locator) ≡ 32) × (length (state .before) ≡ 32) ⌝ }
-    requires { ⌜ (2 * state .size ≤ k) × (k < 31) ⌝ }
-    ensures { λ r. ⌜ Carries k (longer k discrepancy) state r ⌝ }
+    requires { ⌜ (length (now locator) ≡ 32) × (length (now before) ≡ 32) ⌝ }
+    requires { ⌜ (2 * size ≤ k) × (k < 31) ⌝ }
+    ensures { λ _. ⌜ Carries k (longer k discrepancy) (located (now (locator .entry)) (now (before .entry)) size)
+        (located (now (locator .exit)) (now (before .exit)) (k + 1 - size)) ⌝ }
 {
-    let size = state.size;
-    let locator = state.locator;
-    let before = state.before;
-    let mut longer = raise(&locator[..size + 1], k + 1 - 2 * size);
-    add_scaled(
-        powers,
-        logarithms,
-        &mut longer,
-        discrepancy,
-        &before[..k + 1 - size],
-    );
     let inverse = field::inverse_by(powers, logarithms, discrepancy);
-    let mut last = [0u8; 32];
-    add_scaled(powers, logarithms, &mut last, inverse, &locator[..size + 1]);
-    Locator {
-        locator: longer,
-        before: last,
-        size: k + 1 - size,
+    let shift = k + 1 - 2 * size;
+    let mut i = k + 2 - size;
+    while 0 < i {
+        i -= 1;
+        let last = locator[i];
+        locator[i] = field::sum(
+            raised_at(locator, shift, i),
+            field::product_by(powers, logarithms, discrepancy, before[i]),
+        );
+        before[i] = field::product_by(powers, logarithms, inverse, last);
     }
 }
 
-// The state after any other discrepancy but 0: a multiple of the one before comes in, times a power of x that keeps the degree.
+// Any other discrepancy but 0: a multiple of the one before comes in, times a power of x that keeps the degree.
 fn amend(
     powers: &[u8; 255],
     logarithms: &[u8; 256],
-    state: Locator,
+    locator: &mut [u8],
+    before: &[u8],
+    size: usize,
     k: usize,
     discrepancy: u8,
-) -> Locator
+)
     requires { ⌜ Powers (now powers) × Logarithms (now logarithms) ⌝ }
-    requires { ⌜ (length (state .locator) ≡ 32) × (length (state .before) ≡ 32) ⌝ }
-    requires { ⌜ (state .size ≤ k) × (k < 2 * state .size) × (k < 31) ⌝ }
-    ensures { λ r. ⌜ Carries k (as-long k discrepancy) state r ⌝ }
+    requires { ⌜ (length (now locator) ≡ 32) × (length (now before) ≡ 32) ⌝ }
+    requires { ⌜ (size ≤ k) × (k < 2 * size) × (k < 31) ⌝ }
+    ensures { λ _. ⌜ Carries k (as-long k discrepancy) (located (now (locator .entry)) (now (before .entry)) size)
+        (located (now (locator .exit)) (now (before .entry)) size) ⌝ }
 {
-    let size = state.size;
-    let mut locator = state.locator;
-    let before = state.before;
     let shift = 2 * size - (k + 1);
     add_scaled(
         powers,
@@ -170,11 +163,6 @@ fn amend(
         discrepancy,
         &before[..k + 1 - size],
     );
-    Locator {
-        locator: locator,
-        before: before,
-        size: size,
-    }
 }
 
 // The locator of the first `many` power sums.
@@ -183,26 +171,26 @@ pub fn locate(powers: &[u8; 255], logarithms: &[u8; 256], sums: &[u8], many: usi
     requires { ⌜ (many ≤ length (now sums)) × (many < 32) ⌝ }
     ensures { λ r. ⌜ Stands r (massey (λ i. getD (now (sums .entry)) i 0) many) ⌝ }
 {
-    let mut one = [0u8; 32];
-    one[0] = 1;
-    let none = [0u8; 32];
-    let mut state = Locator {
-        locator: one,
-        before: none,
-        size: 0,
-    };
+    let mut locator = [0u8; 32];
+    locator[0] = 1;
+    let mut before = [0u8; 32];
+    let mut size = 0;
     let mut k = 0;
     while k < many {
-        let size = state.size;
-        let d = discrepancy(powers, logarithms, &state.locator, size, sums, k - size);
+        let d = discrepancy(powers, logarithms, &locator, size, sums, k - size);
         if d != 0 {
             if 2 * size <= k {
-                state = lengthen(powers, logarithms, state, k, d);
+                lengthen(powers, logarithms, &mut locator, &mut before, size, k, d);
+                size = k + 1 - size;
             } else {
-                state = amend(powers, logarithms, state, k, d);
+                amend(powers, logarithms, &mut locator, &before, size, k, d);
             }
         }
         k += 1;
     }
-    state
+    Locator {
+        locator: locator,
+        before: before,
+        size: size,
+    }
 }

@@ -4,8 +4,10 @@ use mathlib.Core.Path.{sym, ap}
 use mathlib.Core.List.{List, _++_}
 use Prim.Native.Nat.{ℕ, _+_, _-_, _*_}
 use native.Mathlib.Omega.{arith}
-use lib.ListN.{take, drop, length-take, length-drop}
+use lib.ListN.{length, take, drop, length-take, length-drop}
 use lib.Seq.{length-take-le}
+use borrow.Author.Needs.{needs}
+use Rattle.repair.specs.Held.{located}
 use Rattle.repair.proofs.Held.{carries-as-long}
 use Rattle.repair.proofs.locator.amend.Statement.{statement}
 use Rattle.repair.proofs.locator.amend.Tie as tie
@@ -22,40 +24,42 @@ sub-shift c = omega arith
 sub-add-scaled : tie.Need-sub-add-scaled
 sub-add-scaled c = omega arith
 
-part-locator-start : tie.Need-part-locator-start
-part-locator-start c = omega arith
+part-add-scaled-start : tie.Need-part-add-scaled-start
+part-add-scaled-start c = omega arith
 
-part-locator-end : tie.Need-part-locator-end
-part-locator-end c = omega arith
+part-add-scaled-end : tie.Need-part-add-scaled-end
+part-add-scaled-end c = omega arith
 
-add-before : tie.Need-add-before
-add-before c = omega arith
+add-add-scaled : tie.Need-add-add-scaled
+add-add-scaled c = omega arith
 
-sub-before : tie.Need-sub-before
-sub-before c = omega arith
-
-array-share-prefix-before : tie.Need-array-share-prefix-before
-array-share-prefix-before c = omega arith
+sub-add-scaled-2 : tie.Need-sub-add-scaled-2
+sub-add-scaled-2 c = omega arith
 
 slice-aggregate-add-scaled : tie.Need-slice-aggregate-add-scaled
 slice-aggregate-add-scaled c =
     let y = c .before .before .before .before .args in
-    sym (length-take-le (y .k + 1 - y .state .size) (y .state .before) (omega arith))
+    sym (length-take-le (y .k + 1 - y .size) (y .before .now) (omega arith))
 
 add-scaled-requires : tie.Need-add-scaled-requires
 add-scaled-requires c κs =
-    let y = c .before .before .before .before .args in
-    let s = 2 * y .state .size - (y .k + 1) in
-    let p = y .state .locator in
-    (c .before .before .before .before .pre .0, omega (arith, length-take (y .k + 1 - y .state .size) (y .state .before), length-take (32 - s) (drop s p), length-drop s p))
+    let d = c .before .before .before .before in
+    let y = d .args in
+    let s = 2 * y .size - (y .k + 1) in
+    let p = y .locator .now in
+    (d .pre .0, omega (arith, length-take (y .k + 1 - y .size) (y .before .now), length-take (length p - s) (drop s p), length-drop s p))
+
+same-length : tie.Need-same-length
+same-length c = search needs
 
 returns : tie.Need-returns
 returns c =
-    let y = c .before .before .before .before .before .before .args in
-    let s = 2 * y .state .size - (y .k + 1) in
-    let p = y .state .locator in
-    carries-as-long (y .k) (y .discrepancy) (omega arith) (y .state) (32 - s) _ (omega arith) (omega arith) (omega arith) (omega arith)
-    (ap (λ (q : List ℕ). take s p ++ (q ++ drop (32 - s) (drop s p))) (c .before .add-scaled .ensures))
+    let y = c .before .before .before .before .before .before .before .args in
+    let s = 2 * y .size - (y .k + 1) in
+    let p = y .locator .now in
+    carries-as-long (y .k) (y .discrepancy) (omega arith) (located p (y .before .now) (y .size)) (length p - s) _
+    (omega arith) (omega arith) (omega arith) (omega arith)
+    (ap (λ (q : List ℕ). take s p ++ (q ++ drop (length p - s) (drop s p))) (c .before .before .add-scaled .ensures))
 
 pub amend-spec : {M : Type 1} → statement M
 amend-spec =
@@ -65,11 +69,11 @@ amend-spec =
     add-shift
     sub-shift
     sub-add-scaled
-    part-locator-start
-    part-locator-end
-    add-before
-    sub-before
-    array-share-prefix-before
+    part-add-scaled-start
+    part-add-scaled-end
+    add-add-scaled
+    sub-add-scaled-2
     slice-aggregate-add-scaled
     add-scaled-requires
+    same-length
     returns)

@@ -1,122 +1,129 @@
--- `locator::lengthen` meets its contract: the raised locator and a multiple of the one before it; and the locator over the
--- discrepancy. Assumes nothing.
-use mathlib.Core.Path.{sym, _∙_, ap}
-use Prim.Native.Nat.{ℕ, _+_, _-_}
+-- `locator::lengthen` meets its contract: the loop has made both arrays anew from i on, and below i they are as they were, which
+-- is all that a turn reads. Assumes nothing.
+use mathlib.Core.Path.{_≡_, _∙_, ap, ap₂, subst}
+use Prim.Native.Nat.{ℕ, _+_, _-_, _*_, _≤_}
 use native.Mathlib.Omega.{arith}
-use lib.ListN.{take, replicate, length-take}
-use lib.Seq.{length-take-le}
-use Rattle.code.specs.Polynomial.{added, scaled}
+use lib.ListN.{getD}
+use Rattle.field.specs.Field.{plus, times}
+use Rattle.repair.specs.Locator.{raised}
+use Rattle.repair.specs.Held.{located}
+use Rattle.repair.proofs.Coefficients.{raised-below, Remade, remade-none, remade-more, remade-all}
 use Rattle.repair.proofs.Held.{carries-longer}
 use Rattle.repair.proofs.locator.lengthen.Statement.{statement}
 use Rattle.repair.proofs.locator.lengthen.Tie as tie
 
-add-locator : tie.Need-add-locator
-add-locator c = omega arith
+abbrev Inv-loop : tie.InvT-loop
+Inv-loop powers logarithms locator₀ before₀ size k discrepancy inverse shift i₀ locator before i =
+    (i ≤ k + 2 - size)
+    × Remade (k + 2 - size) i (λ j. plus (getD (raised shift locator₀) j 0) (times discrepancy (getD before₀ j 0))) locator₀ locator
+    × Remade (k + 2 - size) i (λ j. times inverse (getD locator₀ j 0)) before₀ before
 
-array-share-prefix-locator : tie.Need-array-share-prefix-locator
-array-share-prefix-locator c = omega arith
+abbrev μ-loop : tie.MeasureT-loop
+μ-loop powers logarithms locator₀ before₀ size k discrepancy inverse shift i₀ locator before i = i
 
-slice-aggregate-raise : tie.Need-slice-aggregate-raise
-slice-aggregate-raise c =
-    let y = c .before .before .before .args in
-    sym (length-take-le (y .state .size + 1) (y .state .locator) (omega arith))
+inverse-by-requires : tie.Need-inverse-by-requires Inv-loop μ-loop
+inverse-by-requires c κs = c .pre .0
 
-add-raise : tie.Need-add-raise
-add-raise c = omega arith
+add-shift : tie.Need-add-shift Inv-loop μ-loop
+add-shift c = omega arith
 
-mul-raise : tie.Need-mul-raise
-mul-raise c = omega arith
+mul-shift : tie.Need-mul-shift Inv-loop μ-loop
+mul-shift c = omega arith
 
-sub-raise : tie.Need-sub-raise
-sub-raise c = omega arith
+sub-shift : tie.Need-sub-shift Inv-loop μ-loop
+sub-shift c = omega arith
 
-raise-requires : tie.Need-raise-requires
-raise-requires c κs =
-    let y = c .before .before .before .args in
-    omega (arith, length-take (y .state .size + 1) (y .state .locator))
+add-i : tie.Need-add-i Inv-loop μ-loop
+add-i c = omega arith
 
-slice-aggregate-add-scaled : tie.Need-slice-aggregate-add-scaled
-slice-aggregate-add-scaled c = omega arith
+sub-i : tie.Need-sub-i Inv-loop μ-loop
+sub-i c = omega arith
 
-add-before : tie.Need-add-before
-add-before c = omega arith
+loop-holds : tie.Need-loop-holds Inv-loop μ-loop
+loop-holds c = (omega arith, remade-none _ _ _, remade-none _ _ _)
 
-sub-before : tie.Need-sub-before
-sub-before c = omega arith
+sub-i-2 : tie.Need-sub-i-2 Inv-loop μ-loop
+sub-i-2 c = omega arith
 
-array-share-prefix-before : tie.Need-array-share-prefix-before
-array-share-prefix-before c = omega arith
+element-copy-out-last : tie.Need-element-copy-out-last Inv-loop μ-loop
+element-copy-out-last c = omega arith
 
-slice-aggregate-add-scaled-2 : tie.Need-slice-aggregate-add-scaled-2
-slice-aggregate-add-scaled-2 c =
-    let y = c .before .before .before .before .before .before .args in
-    sym (length-take-le (y .k + 1 - y .state .size) (y .state .before) (omega arith))
+raised-at-requires : tie.Need-raised-at-requires Inv-loop μ-loop
+raised-at-requires c κs = (omega arith, omega arith)
 
-add-scaled-requires : tie.Need-add-scaled-requires
-add-scaled-requires c κs =
-    let s = c .before .before .before .before .before .before in
-    (s .pre .0, omega (arith, length-take (s .args .k + 1 - s .args .state .size) (s .args .state .before), c .before .before .raise .ensures .long))
+element-copy-out-product-by : tie.Need-element-copy-out-product-by Inv-loop μ-loop
+element-copy-out-product-by c = omega arith
 
-inverse-by-requires : tie.Need-inverse-by-requires
-inverse-by-requires c κs = c .before .before .before .before .before .before .before .before .pre .0
+product-by-requires : tie.Need-product-by-requires Inv-loop μ-loop
+product-by-requires c κs = c .before .before .before .before .before .before .before .pre .0
 
-slice-aggregate-add-scaled-3 : tie.Need-slice-aggregate-add-scaled-3
-slice-aggregate-add-scaled-3 c = omega arith
+sum-requires : tie.Need-sum-requires Inv-loop μ-loop
+sum-requires c κs = tt
 
-add-locator-2 : tie.Need-add-locator-2
-add-locator-2 c = omega arith
+element-write-locator : tie.Need-element-write-locator Inv-loop μ-loop
+element-write-locator c = omega arith
 
-array-share-prefix-locator-2 : tie.Need-array-share-prefix-locator-2
-array-share-prefix-locator-2 c = omega arith
+product-by-requires-2 : tie.Need-product-by-requires-2 Inv-loop μ-loop
+product-by-requires-2 c κs = c .before .before .before .before .before .before .before .before .before .pre .0
 
-slice-aggregate-add-scaled-4 : tie.Need-slice-aggregate-add-scaled-4
-slice-aggregate-add-scaled-4 c =
-    let y = c .before .before .before .before .before .before .before .before .before .before .before .args in
-    sym (length-take-le (y .state .size + 1) (y .state .locator) (omega arith))
+element-write-before : tie.Need-element-write-before Inv-loop μ-loop
+element-write-before c = omega arith
 
-add-scaled-requires-2 : tie.Need-add-scaled-requires-2
-add-scaled-requires-2 c κs =
-    let s = c .before .before .before .before .before .before .before .before .before .before .before in
-    (s .pre .0, omega (arith, length-take (s .args .state .size + 1) (s .args .state .locator)))
+loop-less : tie.Need-loop-less Inv-loop μ-loop
+loop-less c = omega arith
 
-add-t17 : tie.Need-add-t17
-add-t17 c = omega arith
+loop-again : tie.Need-loop-again Inv-loop μ-loop
+loop-again c =
+    let d = c .before .before .before .before .before .before .before .before in
+    let y = d .before .before .args in
+    let i = d .loop .i in
+    let v = d .loop .inv .1 in
+    let w = d .loop .inv .2 in (
+      omega arith,
+      remade-more _ i _ _ _ _ v (omega arith) (omega arith) (omega arith)
+          (c .before .sum .ensures
+          ∙ ap₂ plus
+          (c .before .before .before .before .raised-at .ensures
+          ∙ raised-below (y .k + 1 - 2 * y .size) (i - 1) i _ _ (omega arith) (v .below))
+          (c .before .before .product-by .ensures ∙ ap (times (y .discrepancy)) (w .below (i - 1) (omega arith)))),
+      remade-more _ i _ _ _ _ w (omega arith) (omega arith) (omega arith)
+          (c .product-by2 .ensures ∙ ap (times _) (v .below (i - 1) (omega arith))),
+    )
 
-sub-t13 : tie.Need-sub-t13
-sub-t13 c = omega arith
-
-returns : tie.Need-returns
+returns : tie.Need-returns Inv-loop μ-loop
 returns c =
-    let d = c .before .before .before .before .before .before .before .before .before in
-    let y = d .before .before .before .before .args in
-    carries-longer (y .k) (y .discrepancy) (omega arith) (y .state) (d .raise .result) _ _ (omega arith) (omega arith) (d .raise .ensures)
-    (c .before .before .before .before .before .before .add-scaled .ensures)
-    (c .before .add-scaled2 .ensures
-    ∙ ap (λ (x : ℕ). added (replicate 32 0) (scaled x (take (y .state .size + 1) (y .state .locator)))) (c .before .before .before .before .inverse-by .ensures))
+    let d = c .before in
+    let y = d .before .before .args in
+    let p = y .locator .now in
+    let q = y .before .now in
+    let e : d .loop .i ≡ 0 = omega arith in
+    carries-longer (y .k) (y .discrepancy) (omega arith) (located p q (y .size)) _ _ (omega arith) (omega arith)
+    (remade-all e (d .loop .inv .1))
+    (subst (λ (x : ℕ). Remade (y .k + 2 - y .size) 0 (λ j. times x (getD p j 0)) q (d .loop .before)) (d .before .inverse-by .ensures)
+    (remade-all e (d .loop .inv .2)))
 
 pub lengthen-spec : {M : Type 1} → statement M
 lengthen-spec =
     tie.close
     (tie.spec
-    add-locator
-    array-share-prefix-locator
-    slice-aggregate-raise
-    add-raise
-    mul-raise
-    sub-raise
-    raise-requires
-    slice-aggregate-add-scaled
-    add-before
-    sub-before
-    array-share-prefix-before
-    slice-aggregate-add-scaled-2
-    add-scaled-requires
+    Inv-loop
+    μ-loop
     inverse-by-requires
-    slice-aggregate-add-scaled-3
-    add-locator-2
-    array-share-prefix-locator-2
-    slice-aggregate-add-scaled-4
-    add-scaled-requires-2
-    add-t17
-    sub-t13
+    add-shift
+    mul-shift
+    sub-shift
+    add-i
+    sub-i
+    loop-holds
+    sub-i-2
+    element-copy-out-last
+    raised-at-requires
+    element-copy-out-product-by
+    product-by-requires
+    sum-requires
+    element-write-locator
+    product-by-requires-2
+    element-write-before
+    loop-less
+    loop-again
     returns)
