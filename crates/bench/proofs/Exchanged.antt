@@ -9,13 +9,13 @@ use native.Mathlib.Omega.{arith}
 use lib.ListN.{getD}
 use borrow.Author.Tests.{le-leb, le-ltb, eq-eqb}
 use Rattle.code.specs.Settings.{Settings, settings-refusal}
-use Rattle.column.specs.Value.{Value}
+use Rattle.counting.specs.Value.{Value}
+use Rattle.counting.proofs.Bool.{true-not-false}
 use Rattle.column.specs.Record.{Rec, opened, is-taken, next-round}
 use Rattle.column.specs.Refusal.{open-refusal, record-refusal, round-refusal, close-refusal, send-refusal, ask-refusal}
 use Rattle.column.specs.Call.{Call, taking, closing, Closed, After-close, Leads, Run, no-call, one-call, Frame-of}
 use Rattle.column.specs.View.{settings-of, view}
 use Rattle.column.specs.declared.record.Column.{Column}
-use Rattle.column.proofs.Bool.{true-not-false}
 use Rattle.column.proofs.Refusal.{Opens, opens-of}
 use Rattle.column.proofs.Lines.{first-of-later, send-lines}
 use Rattle.column.proofs.Size.{frame-fits-slot}

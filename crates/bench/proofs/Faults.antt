@@ -12,8 +12,8 @@ use lib.Seq.{getD-drop, drop-drop}
 use borrow.Author.Tests.{eqb-true, leb-true, ltb-false, not-false, eq-eqb, ne-eqb}
 use Rattle.code.specs.Settings.{Settings, settings, value-size}
 use Rattle.code.proofs.Bytes.{and-split}
-use Rattle.column.proofs.Bool.{true-not-false}
-use Rattle.column.specs.Value.{is-blank}
+use Rattle.counting.specs.Value.{is-blank}
+use Rattle.counting.proofs.Bool.{true-not-false}
 use Rattle.column.specs.Frame.{operand-size}
 use Rattle.column.specs.Refusal.{first-of, blank-refusal}
 use Rattle.bench.specs.Said.{Said, message}

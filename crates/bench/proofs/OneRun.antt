@@ -16,7 +16,7 @@ use Rattle.code.specs.Entry.{values-in}
 use Rattle.code.specs.Promise.{Checks-there}
 use Rattle.code.proofs.Checks.{checks-there}
 use Rattle.code.proofs.Cut.{glued-cut}
-use Rattle.column.specs.Value.{Value, Vector}
+use Rattle.counting.specs.Value.{Value, Vector}
 use Rattle.column.specs.Frame.{operand-size, frame-size, operand-in, checks-in}
 use Rattle.column.specs.Record.{Rec, opened}
 use Rattle.column.specs.Refusal.{open-refusal}

@@ -11,7 +11,7 @@ use lib.ListN.{length, getD, take, drop, length-drop}
 use lib.Seq.{drop-drop, length-take-le}
 use borrow.Author.Tests.{eq-eqb, ne-eqb, le-leb}
 use Rattle.code.specs.Settings.{Settings, settings, settings-refusal}
-use Rattle.column.specs.Value.{Value}
+use Rattle.counting.specs.Value.{Value}
 use Rattle.column.specs.Frame.{operand-size}
 use Rattle.column.specs.Refusal.{number-refusal, size-refusal, blank-refusal, open-refusal}
 use Rattle.column.proofs.Refusal.{first-of-zero}

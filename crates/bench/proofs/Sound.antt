@@ -10,7 +10,7 @@ use lib.Dec.{eqb, ltb}
 use lib.ListN.{length, getD, drop}
 use borrow.Author.Tests.{eqb-true}
 use Rattle.code.specs.Settings.{settings, settings-refusal}
-use Rattle.column.specs.Value.{Value}
+use Rattle.counting.specs.Value.{Value}
 use Rattle.column.specs.Refusal.{open-refusal}
 use Rattle.bench.specs.Said.{Said, only-settings, with-own, with-message, own-of}
 use Rattle.bench.specs.Command.{command-in, command-size, body-in, message-in, command-refusal, after-command}

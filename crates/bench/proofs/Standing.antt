@@ -13,9 +13,9 @@ use borrow.Author.Tests.{eqb-true, eqb-false, eq-eqb, ne-eqb}
 use Rattle.code.proofs.Bytes.{and-split}
 use Rattle.code.specs.Settings.{Settings, settings, settings-refusal}
 use Rattle.code.proofs.Word.{sizes}
+use Rattle.counting.proofs.Bool.{true-not-false}
 use Rattle.column.specs.Refusal.{open-refusal}
 use Rattle.column.specs.Record.{is-taken}
-use Rattle.column.proofs.Bool.{true-not-false}
 use Rattle.bench.specs.declared.places.Places.{Places}
 use Rattle.bench.specs.Said.{Said, Own, Message, own-of, message-of}
 use Rattle.bench.specs.Places.{Stands, message-index, Located}

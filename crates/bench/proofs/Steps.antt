@@ -9,10 +9,10 @@ use lib.Dec.{eqb, leb, ltb}
 use lib.ListN.{length, getD, drop}
 use borrow.Author.Tests.{eq-eqb, ne-eqb, ltb-false, lt-ltb, le-ltb}
 use Rattle.code.specs.Settings.{Settings, settings, settings-refusal}
+use Rattle.counting.specs.Value.{is-blank}
+use Rattle.counting.proofs.Bool.{or-false}
 use Rattle.column.specs.Refusal.{first-of, blank-refusal}
-use Rattle.column.specs.Value.{is-blank}
 use Rattle.column.specs.Record.{is-taken}
-use Rattle.column.proofs.Bool.{or-false}
 use Rattle.column.proofs.Refusal.{first-of-zero}
 use Rattle.bench.specs.Said.{Said, only-settings, is-good, message-of}
 use Rattle.bench.specs.Command.{command-in, is-known, command-size, body-in, no-message, form-refusal, is-column, column-refusal, message-refusal, checks-round-refusal, operand-refusal, value-refusal, command-refusal, after-command}

@@ -12,11 +12,9 @@ use Rattle.code.specs.Settings.{settings, value-size}
 use Rattle.code.specs.Vector.{cut}
 use Rattle.code.specs.Entry.{values-in}
 use Rattle.code.proofs.Cut.{value-fits, values-fit}
-use Rattle.column.specs.Value.{Value, is-blank}
-use Rattle.column.specs.Record.{Held, held-as}
-use Rattle.column.specs.Exchange.{entries}
-use Rattle.column.specs.View.{held-in}
-use Rattle.column.proofs.Placed.{cut-at}
+use Rattle.counting.specs.Value.{Value, is-blank, entries}
+use Rattle.counting.specs.Held.{Held, held-as, held-in}
+use Rattle.counting.proofs.Placed.{cut-at}
 use Rattle.bench.specs.Said.{Said, is-good}
 use Rattle.bench.specs.Listing.{decimal, pointed, joined, value-text, held-text, holdings-text, column-line, column-lines}
 use Rattle.bench.proofs.Decimal.{decimal-short, two-short}

@@ -6,7 +6,7 @@ use mathlib.Core.List.{List, [], _∷_, _++_}
 use mathlib.Core.Option.{Option, none, some}
 use Prim.Native.Nat.{ℕ, zero, suc, _≤_}
 use lib.Dec.{eqb}
-use Rattle.column.specs.Value.{Value}
+use Rattle.counting.specs.Value.{Value}
 use Rattle.column.specs.Frame.{header}
 use Rattle.column.specs.Record.{Rec, opened}
 use Rattle.column.specs.Call.{Call, taking, closing, Run, Frame-of}

@@ -4,8 +4,8 @@ use mathlib.Core.List.{List, [], _∷_, _++_}
 use Prim.Native.Nat.{ℕ, zero, suc, _+_, _/_, _%_}
 use lib.Dec.{ltb}
 use Rattle.code.specs.Settings.{Settings}
-use Rattle.column.specs.Value.{Value, is-blank}
-use Rattle.column.specs.Record.{Held}
+use Rattle.counting.specs.Value.{Value, is-blank}
+use Rattle.counting.specs.Held.{Held}
 use Rattle.bench.specs.Said.{Said, is-good}
 
 -- one decimal digit

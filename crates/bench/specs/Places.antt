@@ -6,7 +6,7 @@ use mathlib.Core.Option.{Option, none, some}
 use Prim.Native.Nat.{ℕ, _+_, _*_, _-_, _≤_}
 use lib.ListN.{length, getD, take, drop}
 use Rattle.code.specs.Settings.{settings, settings-refusal}
-use Rattle.column.specs.Value.{Value}
+use Rattle.counting.specs.Value.{Value}
 use Rattle.column.specs.Frame.{operand-size}
 use Rattle.column.specs.Refusal.{open-refusal}
 use Rattle.bench.specs.Said.{Said, own-of, message-of}

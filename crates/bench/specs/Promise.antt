@@ -3,7 +3,7 @@ use mathlib.Core.Path.{_≡_}
 use mathlib.Core.List.{List}
 use mathlib.Core.Option.{some}
 use Prim.Native.Nat.{ℕ}
-use Rattle.column.specs.Value.{Value}
+use Rattle.counting.specs.Value.{Value}
 use Rattle.column.specs.Record.{Rec}
 use Rattle.column.specs.Refusal.{open-refusal}
 use Rattle.bench.specs.Said.{Said, own-of}

@@ -6,7 +6,7 @@ use mathlib.Core.Option.{Option, none, some}
 use Prim.Native.Nat.{ℕ}
 use lib.Dec.{eqb}
 use Rattle.code.specs.Settings.{Settings}
-use Rattle.column.specs.Value.{Value}
+use Rattle.counting.specs.Value.{Value}
 use Rattle.column.specs.Record.{is-taken}
 
 -- an own value, which makes its column a good one

@@ -5,12 +5,12 @@ ghost use mathlib.Core.List.{List};
 ghost use Prim.Native.Nat.{ℕ, _+_, _≤_, _<_};
 ghost use lib.ListN.{length, getD, drop};
 ghost use Rattle.code.specs.Settings.{Settings, settings};
-ghost use Rattle.column.specs.Value.{is-blank};
 ghost use Rattle.bench.specs.Said.{Said};
 ghost use Rattle.bench.specs.Command.{command-in, is-known, head-size, body-size, command-size, no-message, form-refusal, message-in, is-column, column-refusal, message-refusal, checks-round-refusal, operand-refusal, value-refusal, command-refusal, after-command};
 ghost use Rattle.bench.specs.Places.{Located, Places-of};
 use crate::places;
 use crate::places::Places;
+use counting::lent;
 
 // The byte at a place; 0 past the end.
 pub fn byte_at(file: &[u8], at: usize) -> u32
@@ -218,20 +218,6 @@ fn operand_refusal(file: &[u8], at: usize, places: Places) -> u32
     message_refusal(places, head.round, head.from, head.to)
 }
 
-// Whether all bytes are 0.
-pub fn is_blank(value: &[u8]) -> bool
-    ensures { λ r. ⌜ r ≡ is-blank (now (value .entry)) ⌝ }
-{
-    let mut i = 0;
-    while i < value.len() {
-        if value[i] != 0 {
-            return false;
-        }
-        i += 1;
-    }
-    true
-}
-
 // 6: own value blank.
 fn value_refusal(file: &[u8], at: usize, w: u32) -> u32
     requires { ⌜ (w ≤ 8) × (at ≤ length (now file)) × (command-in (drop at (now file)) ≡ 4 → at + (2 + w) ≤ length (now file)) ⌝ }
@@ -242,7 +228,7 @@ fn value_refusal(file: &[u8], at: usize, w: u32) -> u32
     }
     let start = at + 2;
     let end = start + w as usize;
-    if is_blank(&file[start..end]) {
+    if lent::is_blank(&file[start..end]) {
         return 6;
     }
     0

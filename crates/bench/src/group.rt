@@ -5,7 +5,7 @@ ghost use mathlib.Core.Option.{some};
 ghost use Prim.Native.Nat.{ℕ, _+_, _≤_, _<_};
 ghost use lib.ListN.{length, take};
 ghost use Rattle.code.specs.Settings.{settings};
-ghost use Rattle.column.specs.Value.{Value};
+ghost use Rattle.counting.specs.Value.{Value};
 ghost use Rattle.column.specs.Frame.{header, operand-size};
 ghost use Rattle.column.specs.Record.{opened as «opened-as»};
 ghost use Rattle.column.specs.Refusal.{send-refusal};

@@ -5,19 +5,19 @@ ghost use mathlib.Core.List.{List, [], _∷_};
 ghost use Prim.Native.Nat.{ℕ, _+_, _*_, _≤_, _<_};
 ghost use lib.ListN.{length};
 ghost use Rattle.code.specs.Settings.{settings};
-ghost use Rattle.column.specs.Record.{held-as};
-ghost use Rattle.column.specs.View.{held-in, view};
+ghost use Rattle.counting.specs.Held.{held-as, held-in};
+ghost use Rattle.column.specs.View.{view};
 ghost use Rattle.bench.specs.Said.{Said, is-good};
 ghost use Rattle.bench.specs.Listing.{joined, value-text, held-text, holdings-text, column-line, group-line, column-lines, listing, refused-line};
 ghost use Rattle.bench.specs.Entry.{listing-room};
 ghost use Rattle.bench.specs.Printing.{Put};
 ghost use Rattle.bench.specs.Places.{Located};
 ghost use Rattle.bench.specs.Finished.{Finished, All-finished, record-of};
-use crate::commands;
 use crate::places;
 use crate::places::Places;
 use crate::printing;
 use column::record::Column;
+use counting::lent;
 
 // Bytes joined by a point.
 fn put_joined(output: &mut [u8], at: usize, bytes: &[u8]) -> usize
@@ -41,7 +41,7 @@ fn put_value(output: &mut [u8], at: usize, value: &[u8]) -> usize
     requires { ⌜ at + length (value-text (now value)) ≤ length (now output) ⌝ }
     ensures { λ r. ⌜ Put at (value-text (now (value .entry))) (now (output .entry)) r (now (output .exit)) ⌝ }
 {
-    if commands::is_blank(value) {
+    if lent::is_blank(value) {
         return printing::put_byte(output, at, 45);
     }
     put_joined(output, at, value)

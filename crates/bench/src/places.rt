@@ -4,7 +4,7 @@ ghost use mathlib.Core.List.{List};
 ghost use Prim.Native.Nat.{ℕ, _+_, _≤_, _<_};
 ghost use lib.ListN.{length, take, drop};
 ghost use Rattle.code.specs.Settings.{settings, settings-refusal};
-ghost use Rattle.column.specs.Value.{Value};
+ghost use Rattle.counting.specs.Value.{Value};
 ghost use Rattle.column.specs.Frame.{operand-size};
 ghost use Rattle.column.specs.Refusal.{open-refusal};
 ghost use Rattle.bench.specs.Said.{Said, only-settings, with-own, with-message, message, own-of, message-of, is-good};

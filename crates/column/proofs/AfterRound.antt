@@ -13,22 +13,24 @@ use borrow.Author.Tests.{eq-eqb, ne-eqb, lt-ltb, le-ltb}
 use Rattle.code.specs.Settings.{Settings, settings, settings-refusal, check-count, value-size}
 use Rattle.code.specs.Entry.{values-in}
 use Rattle.code.proofs.Word.{sizes}
-use Rattle.column.specs.Value.{Vector, Rows}
+use Rattle.counting.specs.Value.{Vector, Rows}
+use Rattle.counting.specs.Held.{Held, held-in}
+use Rattle.counting.specs.Count.{agreed-vector, held-list}
+use Rattle.counting.specs.Table.{Planes, row-in, rows-in}
+use Rattle.counting.proofs.Planes.{rows-length, row-at}
 use Rattle.column.specs.Frame.{operand-size}
-use Rattle.column.specs.Record.{Rec, Held, counted, taken-at, no-frames, next-round}
+use Rattle.column.specs.Record.{Rec, counted, taken-at, no-frames, next-round}
 use Rattle.column.specs.Refusal.{close-refusal}
-use Rattle.column.specs.Exchange.{value-or-blank, heard-at, heard-vector, Row, Table, agreed-vector, held-list}
+use Rattle.column.specs.Exchange.{value-or-blank, heard-at, heard-vector, Row, Table}
 use Rattle.column.specs.Call.{closing, Closed, After-close, Leads}
-use Rattle.column.specs.View.{settings-of, frame-in, frames-in, held-in, view}
+use Rattle.column.specs.View.{settings-of, frame-in, frames-in, view}
 use Rattle.column.specs.Entry.{no-slot}
-use Rattle.column.specs.Table.{Planes, row-in, rows-in}
 use Rattle.column.specs.Senders.{slot-past, Slot-row, Slot-rows}
 use Rattle.column.specs.Closing.{one-on}
 use Rattle.column.specs.declared.record.Column.{Column}
 use Rattle.column.proofs.Refusal.{first-of-zero, record-number, close-round, close-settings}
 use Rattle.column.proofs.Rows.{row-alike}
 use Rattle.column.proofs.View.{frames-none, frames-at, view-heard, view-agreed}
-use Rattle.column.proofs.Planes.{rows-length, row-at}
 
 -- a record whose closing is not refused
 pub record Inside (c : Column) : Type 0 where

@@ -1,6 +1,3 @@
-pub mod Bool
-pub mod Value
-pub mod Order
 pub mod Refusal
 pub mod Frame
 pub mod View
@@ -8,10 +5,6 @@ pub mod Lines
 pub mod Size
 pub mod Front
 pub mod Sent
-pub mod Bytewise
-pub mod Placed
-pub mod Planes
-pub mod Best
 pub mod SenderRow
 pub mod AfterRound
 pub mod Rows

@@ -10,11 +10,11 @@ use lib.ListN.{length}
 use borrow.Author.Tests.{eqb-true, eqb-false, leb-true, eq-eqb, ne-eqb, le-leb, le-ltb, not-false}
 use Rattle.code.specs.Settings.{Settings, settings-refusal}
 use Rattle.code.proofs.Bytes.{and-split, and-both}
-use Rattle.column.specs.Value.{Value, is-blank}
+use Rattle.counting.specs.Value.{Value, is-blank}
+use Rattle.counting.proofs.Bool.{or-false}
 use Rattle.column.specs.Frame.{frame-size, round-in, sender-in, run-in}
 use Rattle.column.specs.Record.{Rec, taken-at, is-taken}
 use Rattle.column.specs.Refusal.{first-of, number-refusal, size-refusal, blank-refusal, round-refusal, slot-refusal, frame-refusal, open-refusal, record-refusal, take-refusal, close-refusal, ask-refusal}
-use Rattle.column.proofs.Bool.{or-false}
 
 -- chains
 pub first-of-zero : (a b : ℕ) → first-of a b ≡ 0 → (a ≡ 0) × (b ≡ 0)

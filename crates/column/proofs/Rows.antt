@@ -22,11 +22,11 @@ use Rattle.code.proofs.Word.{word-of}
 use Rattle.code.proofs.Near.{one-near}
 use Rattle.code.proofs.Vector.{Values, vector-of, vector-back, plane-length, planes-same, checked-of, repairs}
 use Rattle.code.proofs.Cut.{cut-length}
-use Rattle.column.specs.Value.{Value, Vector, Rows, blanks}
+use Rattle.counting.specs.Value.{Value, Vector, Rows, blanks}
+use Rattle.counting.proofs.Value.{blank-size}
 use Rattle.column.specs.Frame.{checks-in}
 use Rattle.column.specs.Record.{Rec, counted}
 use Rattle.column.specs.Exchange.{Row, Table}
-use Rattle.column.proofs.Value.{blank-size}
 
 -- n values, each of the size of a value
 pub record Sized (s : Settings) (vs : Vector) : Type 0 where

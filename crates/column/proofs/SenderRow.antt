@@ -23,14 +23,14 @@ use Rattle.code.proofs.Vector.{vector-of, values-back}
 use Rattle.code.proofs.Word.{sizes}
 use Rattle.repair.specs.Entry.{Done, Done-by, repair-refusal, repair-by-refusal, Repair-by-as, Repair-by-says, By-own-checks}
 use Rattle.repair.proofs.ByOwnChecks.{by-own-checks}
-use Rattle.column.specs.Value.{blank, blanks}
+use Rattle.counting.specs.Value.{blank, blanks}
+use Rattle.counting.proofs.Value.{take-replicate}
+use Rattle.counting.proofs.Placed.{cut-at}
 use Rattle.column.specs.Frame.{checks-in}
 use Rattle.column.specs.Exchange.{Row}
-use Rattle.column.proofs.Value.{take-replicate}
 use Rattle.column.proofs.Rows.{Sized, checked-vector}
 use Rattle.column.proofs.Size.{checks-fit}
 use Rattle.column.proofs.Front.{cut-glued, cut-front}
-use Rattle.column.proofs.Placed.{cut-at}
 
 -- an array of bytes in a struct holds bytes
 pub bytes-typed : (xs : List ℕ) → WT (arrayVal (map (vint w8) (map (λ x. x) xs))) → Bytes xs

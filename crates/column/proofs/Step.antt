@@ -7,11 +7,13 @@ use Prim.Native.Nat.{ℕ, zero, suc, _≤_}
 use native.Mathlib.Omega.{arith}
 use lib.Dec.{eqb}
 use borrow.Author.Tests.{eqb-true, eqb-false}
-use Rattle.column.specs.Value.{Vector, Rows}
+use Rattle.counting.specs.Value.{Vector, Rows}
+use Rattle.counting.specs.Held.{Held}
+use Rattle.counting.specs.Count.{agreed-vector, held-list}
 use Rattle.column.specs.Frame.{operand-in}
-use Rattle.column.specs.Record.{Rec, Held, no-frames, with-refused, with-frame, next-round}
+use Rattle.column.specs.Record.{Rec, no-frames, with-refused, with-frame, next-round}
 use Rattle.column.specs.Refusal.{take-refusal, close-refusal, counts-up}
-use Rattle.column.specs.Exchange.{heard-vector, Table, agreed-vector, held-list}
+use Rattle.column.specs.Exchange.{heard-vector, Table}
 use Rattle.column.specs.Call.{Call, taking, sending, closing, asking, after-take, Closed, After-close, Leads}
 use Rattle.column.proofs.Refusal.{close-round}
 use Rattle.column.proofs.Frame.{after-take-taken}

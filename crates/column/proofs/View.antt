@@ -12,9 +12,10 @@ use lib.Seq.{getD-take, take-set-lt, length-take-le}
 use borrow.Author.Tests.{eq-eqb, ne-eqb, lt-ltb}
 use Rattle.code.specs.Settings.{Settings, settings, value-size}
 use Rattle.code.specs.Entry.{values-in}
+use Rattle.counting.specs.Held.{held-in}
 use Rattle.column.specs.Frame.{operand-size, operand-in}
 use Rattle.column.specs.Record.{opened, no-frames, taken-at, is-taken, with-refused, raised, refused-at}
-use Rattle.column.specs.View.{settings-of, frame-in, frames-in, held-in, view}
+use Rattle.column.specs.View.{settings-of, frame-in, frames-in, view}
 use Rattle.column.specs.Entry.{no-slot, with-count}
 use Rattle.column.specs.declared.record.Slot.{Slot}
 use Rattle.column.specs.declared.record.Column.{Column}

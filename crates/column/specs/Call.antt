@@ -6,11 +6,12 @@ use Prim.Native.Nat.{ℕ, zero, suc}
 use lib.Dec.{eqb}
 use lib.ListN.{length, take}
 use Rattle.code.specs.Vector.{has-checks}
-use Rattle.column.specs.Value.{Rows}
+use Rattle.counting.specs.Value.{Rows}
+use Rattle.counting.specs.Count.{agreed-vector, held-list}
 use Rattle.column.specs.Frame.{frame-size, header, operand-in, checks-in}
 use Rattle.column.specs.Record.{Rec, with-refused, with-frame, next-round}
 use Rattle.column.specs.Refusal.{take-refusal, close-refusal, counts-up}
-use Rattle.column.specs.Exchange.{heard-vector, Table, agreed-vector, held-list}
+use Rattle.column.specs.Exchange.{heard-vector, Table}
 
 -- the calls after an opening: taking a frame that came in a slot, sending into so many lent bytes, closing a round, asking for the result
 pub data Call : Type 0 where

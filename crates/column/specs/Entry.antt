@@ -7,10 +7,11 @@ use Prim.Native.Nat.{ℕ}
 use lib.ListN.{length, getD, replicate}
 use Rattle.code.specs.Settings.{settings}
 use Rattle.code.specs.Entry.{in-front}
+use Rattle.counting.specs.Held.{held-in}
 use Rattle.column.specs.Record.{opened, raised}
 use Rattle.column.specs.Refusal.{open-refusal, take-refusal, send-refusal, close-refusal, ask-refusal, counts-up}
 use Rattle.column.specs.Call.{closing, after-take, Frame-of, Leads}
-use Rattle.column.specs.View.{settings-of, held-in, view}
+use Rattle.column.specs.View.{settings-of, view}
 use Rattle.column.specs.declared.record.Slot.{Slot}
 use Rattle.column.specs.declared.record.Column.{Column}
 

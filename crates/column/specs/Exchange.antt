@@ -1,23 +1,17 @@
--- One column's exchange: V, the tables X and Z of rows, Y, values and confidences. Assumes nothing: these are definitions.
+-- One column's exchange: V, and the tables X and Z of rows, over which values are counted. Assumes nothing: these are definitions.
 use mathlib.Core.Path.{_≡_}
-use mathlib.Core.Bool.{Bool, _&&_, _||_, not, cond}
-use mathlib.Core.List.{List, [], _∷_}
+use mathlib.Core.Bool.{cond}
+use mathlib.Core.List.{List, []}
 use mathlib.Core.Logic.{_⊎_}
 use mathlib.Core.Option.{Option, none, some}
-use Prim.Native.Nat.{ℕ, zero, suc, _+_, _*_, _-_, _≤_}
-use lib.Dec.{ltb, leb, eqb}
+use Prim.Native.Nat.{ℕ, _-_, _≤_}
+use lib.Dec.{eqb}
 use lib.ListN.{length, getD}
 use Rattle.code.specs.Settings.{Settings}
-use Rattle.code.specs.Vector.{same}
 use Rattle.code.specs.Repair.{Repaired, No-repair}
-use Rattle.column.specs.Value.{Value, Vector, Rows, blank, is-blank, blanks, bytes-before}
+use Rattle.counting.specs.Value.{Value, Vector, Rows, blank, blanks, entries}
 use Rattle.column.specs.Frame.{checks-in}
-use Rattle.column.specs.Record.{Rec, Held, held-as, counted}
-
--- a list given entry by entry, so many from the entry i on
-unfoldable pub entries : {A : Type 0} → (many i : ℕ) → (ℕ → A) → List A
-entries zero i f = []
-entries (suc n) i f = f i ∷ entries n (suc i) f
+use Rattle.column.specs.Record.{Rec, counted}
 
 -- a value taken, or blank for a missing frame
 unfoldable pub value-or-blank : Settings → Option (List ℕ) → Value
@@ -42,46 +36,3 @@ pub record Table (r : Rec) (vs : Vector) (rows : Rows) : Type 0 where
   pub many : length rows ≡ r .settings .n
   pub own-row : getD rows (r .number - 1) [] ≡ vs
   pub others : (k : ℕ) → 1 ≤ k → k ≤ r .settings .n → (k ≡ r .number → ⊥) → Row (r .settings) vs (counted r k) (getD rows (k - 1) [])
-
--- how often a value is found in a column of a table; places in a row count from 0, so that place j is column j + 1's
-unfoldable pub found : (j : ℕ) → Value → Rows → ℕ
-found j v [] = 0
-found j v (row ∷ rows) = cond (same (getD row j []) v) 1 0 + found j v rows
-
--- whether a value goes before the best so far: it is no blank, and there is none so far, or it is found more often, or as often with
--- the smaller bytes
-unfoldable pub better : (j : ℕ) → Rows → (v best : Value) → Bool
-better j rows v b =
-    not (is-blank v)
-    && (is-blank b || (ltb (found j b rows) (found j v rows) || (eqb (found j b rows) (found j v rows) && bytes-before v b)))
-
--- the best of the values in a column of a table, from the best so far on
-unfoldable pub most-from : (j : ℕ) → (all rest : Rows) → (best : Value) → Value
-most-from j all [] b = b
-most-from j all (row ∷ rows) b = most-from j all rows (cond (better j all (getD row j []) b) (getD row j []) b)
-
--- m: the most often found value in a column, blank left out, the smallest bytes first on a tie; blank where there is no other
-unfoldable pub most : Settings → (j : ℕ) → Rows → Value
-most s j rows = most-from j rows rows (blank s)
-
--- Y at a place: the value found at least n − t times, else blank; that is more than half of the rows, so it is m
-unfoldable pub agreed-at : Settings → Rows → (j : ℕ) → Value
-agreed-at s rows j = let m = most s j rows in cond (leb (s .n - s .t) (found j m rows)) m (blank s)
-
--- Y
-unfoldable pub agreed-vector : Settings → Rows → Vector
-agreed-vector s rows = entries (s .n) 0 (agreed-at s rows)
-
--- a value and its confidence: found 2t + 1 times or more, m at 2; t + 1 to 2t times, m at 1; else blank at 0
-unfoldable pub held-of : Settings → Value → (times : ℕ) → Held
-held-of s v c =
-    cond (is-blank v) (held-as (blank s) 0)
-    (cond (leb (2 * s .t + 1) c) (held-as v 2) (cond (leb (s .t + 1) c) (held-as v 1) (held-as (blank s) 0)))
-
--- value and confidence at a place of the last table
-unfoldable pub held-at : Settings → Rows → (j : ℕ) → Held
-held-at s rows j = let m = most s j rows in held-of s m (found j m rows)
-
--- values and confidences of all columns
-unfoldable pub held-list : Settings → Rows → List Held
-held-list s rows = entries (s .n) 0 (held-at s rows)

@@ -6,7 +6,7 @@ use lib.Dec.{eqb}
 use lib.ListN.{getD, drop}
 use Rattle.code.specs.Settings.{Settings, check-count, value-size}
 use Rattle.code.specs.Entry.{values-in}
-use Rattle.column.specs.Value.{Vector}
+use Rattle.counting.specs.Value.{Vector}
 
 -- the command of a round's frame: 0x11 value, 0x22 checks of round two, 0x33 checks of round three
 unfoldable pub command : (round : ℕ) → ℕ

@@ -1,4 +1,3 @@
-pub mod Value
 pub mod Frame
 pub mod Record
 pub mod Refusal
@@ -7,6 +6,5 @@ pub mod Call
 pub mod Promise
 pub mod View
 pub mod Entry
-pub mod Table
 pub mod Senders
 pub mod Closing

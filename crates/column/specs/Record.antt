@@ -6,16 +6,8 @@ use Prim.Native.Nat.{ℕ, zero, suc, _-_}
 use lib.Dec.{ltb}
 use lib.ListN.{getD, set, replicate}
 use Rattle.code.specs.Settings.{Settings}
-use Rattle.column.specs.Value.{Value, Vector}
-
--- what a column ends with about a column: a value and its confidence, 2, 1 or 0
-pub record Held : Type 0 where
-  pub value : Value
-  pub confidence : ℕ
-
--- a value held at a confidence
-unfoldable pub held-as : Value → (confidence : ℕ) → Held
-held-as v c = record { value = v; confidence = c }
+use Rattle.counting.specs.Value.{Value, Vector}
+use Rattle.counting.specs.Held.{Held}
 
 -- the record: settings, own number, run number, own value; its round, 1 to 4, where 4 is finished; the frames taken in this round, by slot,
 -- as operands; V from round two on; Y from round three on; values and confidences in round four; the count of refused frames

@@ -5,7 +5,7 @@ use Prim.Native.Nat.{ℕ}
 use lib.Dec.{ltb, leb, eqb}
 use lib.ListN.{length}
 use Rattle.code.specs.Settings.{Settings, settings-refusal}
-use Rattle.column.specs.Value.{Value, is-blank}
+use Rattle.counting.specs.Value.{Value, is-blank}
 use Rattle.column.specs.Frame.{frame-size, round-in, sender-in, run-in}
 use Rattle.column.specs.Record.{Rec, taken-at, is-taken}
 

@@ -8,11 +8,11 @@ use lib.ListN.{getD, take}
 use Rattle.code.specs.Settings.{Settings, settings, settings-refusal, check-count, value-size}
 use Rattle.code.specs.Vector.{has-checks}
 use Rattle.code.specs.Entry.{values-in}
-use Rattle.column.specs.Value.{Vector}
+use Rattle.counting.specs.Value.{Vector}
+use Rattle.counting.specs.Table.{Planes, row-in}
 use Rattle.column.specs.Frame.{checks-in}
 use Rattle.column.specs.Exchange.{Row}
 use Rattle.column.specs.View.{frame-in}
-use Rattle.column.specs.Table.{Planes, row-in}
 use Rattle.column.specs.declared.record.Slot.{Slot}
 use Rattle.column.specs.declared.senders.Coded.{Coded}
 

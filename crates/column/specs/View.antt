@@ -5,12 +5,12 @@ use mathlib.Core.List.{List, [], map}
 use mathlib.Core.Option.{Option, none, some}
 use Prim.Native.Nat.{ℕ}
 use lib.Dec.{ltb, eqb}
-use lib.ListN.{getD, take}
+use lib.ListN.{take}
 use Rattle.code.specs.Settings.{Settings, settings, value-size}
 use Rattle.code.specs.Entry.{values-in}
+use Rattle.counting.specs.Held.{held-in}
 use Rattle.column.specs.Frame.{operand-size, operand-in}
-use Rattle.column.specs.Record.{Rec, Held, held-as}
-use Rattle.column.specs.Exchange.{entries}
+use Rattle.column.specs.Record.{Rec}
 use Rattle.column.specs.declared.record.Slot.{Slot}
 use Rattle.column.specs.declared.record.Column.{Column}
 
@@ -25,10 +25,6 @@ frame-in size s = cond (eqb (s .taken) 0) none (some (take size (operand-in (s .
 -- the frames of the slots of a round
 unfoldable pub frames-in : Settings → (round : ℕ) → List Slot → List (Option (List ℕ))
 frames-in s m slots = map (frame-in (operand-size s m)) (take (s .n) slots)
-
--- values, and as many confidences, as what a column ends with
-unfoldable pub held-in : Settings → (values confidences : List ℕ) → List Held
-held-in s vs cs = entries (s .n) 0 (λ j. held-as (getD (values-in s (s .n) vs) j []) (getD cs j 0))
 
 -- the record: V is read from round two on, Y from three on, values and confidences in round four
 unfoldable pub view : Column → Rec

@@ -5,19 +5,19 @@ ghost use Prim.Native.Nat.{ℕ, _≤_};
 ghost use lib.ListN.{take};
 ghost use Rattle.code.specs.Settings.{settings};
 ghost use Rattle.code.specs.Entry.{values-in};
+ghost use Rattle.counting.specs.Table.{rows-in};
 ghost use Rattle.column.specs.Refusal.{close-refusal};
 ghost use Rattle.column.specs.Exchange.{value-or-blank, heard-vector, Table as «Table-of»};
 ghost use Rattle.column.specs.Call.{Closed};
 ghost use Rattle.column.specs.View.{settings-of, frame-in, view};
-ghost use Rattle.column.specs.Table.{rows-in};
 ghost use Rattle.column.specs.Closing.{one-on};
-use crate::lent;
 use crate::record::Column;
 use crate::record::Slot;
 use crate::senders;
-use crate::table::Table;
-use crate::tally;
-use crate::vector;
+use counting::lent;
+use counting::table::Table;
+use counting::tally;
+use counting::vector;
 
 // V at a slot, which may be the column's own: the value taken, or blank for a missing frame.
 fn heard_at(own: [u8; 8], mine: bool, slot: Slot, w: usize) -> [u8; 8]

@@ -1,22 +1,17 @@
 // One column's part in the exchange: its record and the calls on it.
 mod closing;
-mod filling;
 mod frames;
-mod lent;
 pub mod record;
 mod refusals;
 mod senders;
 mod sending;
-mod table;
 mod taking;
-mod tally;
-mod values;
-mod vector;
 
 ghost use Rattle.column.specs.Entry.{Open-says, Take-says, Send-says, Close-says, Result-says};
 use crate::record::Column;
 use crate::record::Holdings;
 use crate::record::Outcome;
+use counting::lent;
 
 // A column with its settings, number, run and own value: 0, or the refusal 1 to 6.
 pub fn open(n: u32, t: u32, w: u32, number: u32, run: u16, own: &[u8]) -> Outcome

@@ -4,8 +4,8 @@ ghost use Prim.Native.Nat.{ℕ};
 ghost use Rattle.code.specs.Settings.{settings};
 ghost use Rattle.column.specs.Refusal.{first-of, number-refusal, slot-refusal, open-refusal, record-refusal, close-refusal, ask-refusal};
 ghost use Rattle.column.specs.View.{settings-of, view};
-use crate::lent;
 use crate::record::Column;
+use counting::lent;
 
 // 4: own number not 1 to n.
 fn number_refusal(n: u32, number: u32) -> u32

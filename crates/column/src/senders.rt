@@ -4,10 +4,10 @@ ghost use mathlib.Core.Bool.{false};
 ghost use Rattle.code.specs.Settings.{settings, settings-refusal};
 ghost use Rattle.code.specs.Entry.{values-in};
 ghost use Rattle.column.specs.Senders.{coded-settings, coded-vector, Coded-right, Slot-row, Slot-rows};
-use crate::filling;
 use crate::record::Slot;
 use crate::sending;
-use crate::table::Table;
+use counting::filling;
+use counting::table::Table;
 
 // A vector and its check values, both from the front of their array on.
 pub struct Coded {

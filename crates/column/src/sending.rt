@@ -10,8 +10,8 @@ ghost use Rattle.column.specs.Frame.{header, operand-size, checks-in};
 ghost use Rattle.column.specs.Refusal.{close-refusal};
 ghost use Rattle.column.specs.Call.{Operand};
 ghost use Rattle.column.specs.View.{settings-of, view};
-use crate::lent;
 use crate::record::Column;
+use counting::lent;
 
 // Command, sender, and the run number, high byte first.
 pub fn put_header(round: u32, number: u32, run: u16, buffer: &mut [u8])

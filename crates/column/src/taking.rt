@@ -4,9 +4,9 @@ ghost use Rattle.column.specs.Frame.{operand-in};
 ghost use Rattle.column.specs.Record.{with-frame};
 ghost use Rattle.column.specs.Refusal.{take-refusal};
 ghost use Rattle.column.specs.View.{view};
-use crate::lent;
 use crate::record::Column;
 use crate::record::Slot;
+use counting::lent;
 
 // The record with the frame in its slot.
 pub fn keep(column: Column, slot: u32, frame: &[u8]) -> Column

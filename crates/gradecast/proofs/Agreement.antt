@@ -12,11 +12,11 @@ use lib.ListN.{length, getD}
 use Rattle.code.specs.Settings.{Settings}
 use Rattle.code.specs.Vector.{same, differ-values}
 use Rattle.code.proofs.Vector.{same-equal}
-use Rattle.column.specs.Value.{Value, Vector, Rows, is-blank}
-use Rattle.column.specs.Record.{held-as}
-use Rattle.column.specs.Exchange.{found, most, agreed-at, held-of, held-at}
+use Rattle.counting.specs.Value.{Value, Vector, Rows, is-blank}
+use Rattle.counting.specs.Held.{held-as}
+use Rattle.counting.specs.Count.{found, most, agreed-at, held-of, held-at}
+use Rattle.counting.proofs.Value.{differ-of-not-same}
 use Rattle.gradecast.specs.Promise.{member, all-different, apart}
-use Rattle.column.proofs.Value.{differ-of-not-same}
 use Rattle.gradecast.proofs.Count.{missing, missing-few, found-near, found-all, found-at, found-two, differ-few}
 use Rattle.gradecast.proofs.Most.{most-found, most-of-half}
 use Rattle.gradecast.proofs.Grade.{agreed-found, agreed-of-often, held-sure, confidence-le, held-some, held-full, apart-le-one}

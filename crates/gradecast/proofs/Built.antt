@@ -6,11 +6,11 @@ use Prim.Native.Nat.{ℕ, suc, _-_}
 use native.Mathlib.Omega.{arith}
 use lib.ListN.{length, getD}
 use Rattle.code.specs.Settings.{Settings, settings}
-use Rattle.column.specs.Record.{Held}
+use Rattle.counting.specs.Held.{Held, held-in}
 use Rattle.column.specs.Refusal.{ask-refusal}
 use Rattle.column.specs.Call.{Call, Leads, Run, no-call, one-call}
 use Rattle.gradecast.specs.Promise.{Good, Among, first, other, Ran, holds, none-held, Fair, Agree, Gradecast}
-use Rattle.column.specs.View.{settings-of, held-in, view}
+use Rattle.column.specs.View.{settings-of, view}
 use Rattle.gradecast.specs.Built.{Built-step, takes, sends, closes, asks, Built-run, no-step, one-step, Built, Built-ran, defined, One-of, front, further, answered, Built-gradecast}
 use Rattle.column.specs.declared.record.Column.{Column}
 use Rattle.column.proofs.Refusal.{first-of-next, Opens, opens-of}

@@ -15,12 +15,13 @@ use Rattle.code.specs.Plane.{byte-list}
 use Rattle.code.specs.Vector.{is-vector}
 use Rattle.code.proofs.Bytes.{Bytes, bytes-of, bytes-drop, and-split}
 use Rattle.code.proofs.Vector.{Values, vector-of, vector-back}
-use Rattle.column.specs.Value.{Value, Vector, Rows, blank, blanks}
+use Rattle.counting.specs.Value.{Value, Vector, Rows, blank, blanks}
+use Rattle.counting.specs.Count.{agreed-at, agreed-vector}
+use Rattle.counting.proofs.Value.{entries-at}
 use Rattle.column.specs.Frame.{operand-in}
 use Rattle.column.specs.Record.{Rec, opened, taken-at, counted, with-frame}
-use Rattle.column.specs.Exchange.{value-or-blank, heard-at, heard-vector, Row, Table, agreed-at, agreed-vector}
+use Rattle.column.specs.Exchange.{value-or-blank, heard-at, heard-vector, Row, Table}
 use Rattle.column.specs.Call.{Call, taking, sending, closing, asking}
-use Rattle.column.proofs.Value.{entries-at}
 use Rattle.column.proofs.Refusal.{Opens, taken-of}
 use Rattle.column.proofs.Frame.{taken-cases}
 use Rattle.column.proofs.Rows.{Sized, table-rows}

@@ -11,10 +11,12 @@ use borrow.Author.Tests.{eq-eqb, le-leb}
 use Rattle.code.specs.Settings.{settings, settings-refusal, value-size}
 use Rattle.code.specs.Plane.{byte-list}
 use Rattle.code.specs.Vector.{same}
-use Rattle.column.specs.Value.{Value, Vector, blank, is-blank, bytes-before}
-use Rattle.column.specs.Record.{Rec, held-as, opened, next-round}
+use Rattle.counting.specs.Value.{Value, Vector, blank, is-blank, bytes-before, entries}
+use Rattle.counting.specs.Held.{held-as}
+use Rattle.counting.specs.Count.{found, better, most-from, most, agreed-at, agreed-vector, held-of, held-at, held-list}
+use Rattle.column.specs.Record.{Rec, opened, next-round}
 use Rattle.column.specs.Refusal.{first-of, number-refusal, size-refusal, blank-refusal, round-refusal, open-refusal, record-refusal, close-refusal}
-use Rattle.column.specs.Exchange.{Table, entries, heard-at, heard-vector, found, better, most-from, most, agreed-at, agreed-vector, held-of, held-at, held-list}
+use Rattle.column.specs.Exchange.{Table, heard-at, heard-vector}
 use Rattle.column.specs.Call.{Call, closing, Closed, Leads, After-close, Run, no-call, one-call}
 use Rattle.gradecast.specs.Promise.{Good, numbers, member, all-different, Among, first, Ran, holds, Gradecast}
 use Rattle.gradecast.proofs.Gradecast.{gradecast}

@@ -13,11 +13,11 @@ use borrow.Author.Tests.{eqb-true, eqb-false, eq-eqb, not-true}
 use Rattle.code.specs.Vector.{same, differ-values}
 use Rattle.code.proofs.Bytes.{and-split}
 use Rattle.code.proofs.Vector.{same-equal}
-use Rattle.column.specs.Value.{Value, Vector, Rows}
-use Rattle.column.specs.Exchange.{found}
+use Rattle.counting.specs.Value.{Value, Vector, Rows}
+use Rattle.counting.specs.Count.{found}
+use Rattle.counting.proofs.Bool.{true-not-false, or-true-left, or-true-right, count-le}
+use Rattle.counting.proofs.Value.{same-of-equal}
 use Rattle.gradecast.specs.Promise.{member, all-different}
-use Rattle.column.proofs.Bool.{true-not-false, or-true-left, or-true-right, count-le}
-use Rattle.column.proofs.Value.{same-of-equal}
 
 pub member-here : (m : ℕ) (ns : List ℕ) → member m (m ∷ ns) ≡ true
 unfolding member

@@ -10,8 +10,9 @@ use lib.Dec.{eqb}
 use lib.ListN.{getD}
 use borrow.Author.Tests.{eq-eqb}
 use Rattle.code.specs.Settings.{settings-refusal}
+use Rattle.counting.specs.Held.{held-as}
 use Rattle.column.specs.Frame.{operand-in}
-use Rattle.column.specs.Record.{Rec, held-as, opened, next-round}
+use Rattle.column.specs.Record.{Rec, opened, next-round}
 use Rattle.column.specs.Refusal.{close-refusal}
 use Rattle.column.specs.Call.{Call, taking, sending, closing, asking, after-take, Closed, Leads, Passes, here, later, Operand, Frame-of}
 use Rattle.gradecast.specs.Promise.{Good, numbers, member, all-different, Among, first, other, Ran, Handed, Fair, Agree, Gradecast}

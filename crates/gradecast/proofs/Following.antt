@@ -14,16 +14,18 @@ use Rattle.code.specs.Settings.{Settings, settings, value-size}
 use Rattle.code.specs.Vector.{glued}
 use Rattle.code.specs.Entry.{in-front}
 use Rattle.code.proofs.Written.{zero-at}
-use Rattle.column.specs.Value.{Value, Vector, Rows, blank, is-blank}
-use Rattle.column.specs.Record.{Rec, held-as, next-round}
+use Rattle.counting.specs.Value.{Value, Vector, Rows, blank, is-blank}
+use Rattle.counting.specs.Held.{held-as}
+use Rattle.counting.specs.Count.{most, found, held-of, held-at, held-list}
+use Rattle.counting.proofs.Value.{blank-size}
+use Rattle.column.specs.Record.{Rec, next-round}
 use Rattle.column.specs.Refusal.{take-refusal, send-refusal, close-refusal, ask-refusal}
-use Rattle.column.specs.Exchange.{Table, most, found, held-of, held-at, held-list}
+use Rattle.column.specs.Exchange.{Table}
 use Rattle.column.specs.Call.{Call, taking, sending, closing, asking, Closed, After-close, Leads, Run, no-call, one-call, Passes, here, later, Frame-of}
 use Rattle.column.specs.View.{settings-of, view}
 use Rattle.column.specs.Entry.{after-refusal, Take-says, Send-says, Close-says, Result-says}
 use Rattle.column.specs.Closing.{one-on}
 use Rattle.column.specs.declared.record.Column.{Column}
-use Rattle.column.proofs.Value.{blank-size}
 use Rattle.column.proofs.Refusal.{Opens, ask-round}
 use Rattle.column.proofs.Frame.{after-take-taken}
 use Rattle.column.proofs.View.{view-heard, view-agreed, view-held}

@@ -9,7 +9,7 @@ use lib.ListN.{length}
 use borrow.Author.Tests.{eqb-true, eq-eqb, ne-eqb, not-true}
 use Rattle.code.proofs.Bytes.{and-split}
 use Rattle.gradecast.specs.Promise.{Good, numbers, member, all-different, Among, first, other}
-use Rattle.column.proofs.Bool.{true-not-false}
+use Rattle.counting.proofs.Bool.{true-not-false}
 use Rattle.gradecast.proofs.Count.{member-here, member-there}
 
 -- one of the list, and its number

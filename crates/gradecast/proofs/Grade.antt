@@ -11,12 +11,12 @@ use lib.Dec.{leb, eqb}
 use lib.ListN.{length, getD}
 use borrow.Author.Tests.{eqb-true, eqb-false, leb-true, le-leb}
 use Rattle.code.specs.Settings.{Settings}
-use Rattle.column.specs.Value.{Value, Rows, blank, is-blank}
-use Rattle.column.specs.Record.{held-as}
-use Rattle.column.specs.Exchange.{found, most, agreed-at, held-of}
+use Rattle.counting.specs.Value.{Value, Rows, blank, is-blank}
+use Rattle.counting.specs.Held.{held-as}
+use Rattle.counting.specs.Count.{found, most, agreed-at, held-of}
+use Rattle.counting.proofs.Bool.{true-not-false}
+use Rattle.counting.proofs.Value.{blank-is-blank}
 use Rattle.gradecast.specs.Promise.{apart}
-use Rattle.column.proofs.Bool.{true-not-false}
-use Rattle.column.proofs.Value.{blank-is-blank}
 use Rattle.gradecast.proofs.Most.{most-is, most-of-half}
 
 -- an entry of Y

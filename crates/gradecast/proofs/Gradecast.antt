@@ -8,11 +8,11 @@ use Prim.Native.Nat.{ℕ, _+_, _-_, _<_, _≤_}
 use native.Mathlib.Omega.{arith}
 use lib.ListN.{getD}
 use Rattle.code.specs.Settings.{Settings}
-use Rattle.column.specs.Value.{Value, Vector, Rows, is-blank}
-use Rattle.column.specs.Record.{Held, held-as}
-use Rattle.column.specs.Exchange.{agreed-at, agreed-vector, held-at, held-list}
+use Rattle.counting.specs.Value.{Value, Vector, Rows, is-blank}
+use Rattle.counting.specs.Held.{Held, held-as}
+use Rattle.counting.specs.Count.{agreed-at, agreed-vector, held-at, held-list}
+use Rattle.counting.proofs.Value.{entries-at}
 use Rattle.gradecast.specs.Promise.{Good, numbers, member, Among, none-held, holds, Agree, Gradecast}
-use Rattle.column.proofs.Value.{entries-at}
 use Rattle.gradecast.proofs.Agreement.{Carries, Agreed-from, Second, agreed-own, Graded, graded}
 use Rattle.gradecast.proofs.Walk.{kept}
 use Rattle.gradecast.proofs.Goods.{among-member, of-number, of-number-is, by-number}

@@ -13,13 +13,13 @@ use lib.ListN.{length}
 use borrow.Author.Tests.{eqb-true, eqb-false}
 use Rattle.code.specs.Settings.{Settings, settings-refusal}
 use Rattle.code.proofs.Word.{sizes}
+use Rattle.counting.proofs.Bool.{true-not-false}
 use Rattle.column.specs.Frame.{operand-in}
 use Rattle.column.specs.Record.{Rec, opened, taken-at, is-taken, counted}
 use Rattle.column.specs.Refusal.{take-refusal}
 use Rattle.column.specs.Call.{Call, taking, closing, after-take, Leads, Passes, later, Operand, Frame-of}
 use Rattle.gradecast.specs.Promise.{Good, numbers, all-different, Among, Ran, Handed, Fair}
 use Rattle.gradecast.proofs.Goods.{among-unique, by-number, numbers-length}
-use Rattle.column.proofs.Bool.{true-not-false}
 use Rattle.gradecast.proofs.Agreement.{Numbered}
 use Rattle.column.proofs.Refusal.{Opens, opens-of, Fits, frame-four, taken-of, take-refusal-last}
 use Rattle.column.proofs.Frame.{frame-operand, frame-fits-its-round, fits-alike, operand-round, taken-here, after-take-taken}

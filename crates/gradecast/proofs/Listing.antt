@@ -14,11 +14,13 @@ use Rattle.code.specs.Settings.{Settings, settings-refusal, check-count, value-
 use Rattle.code.specs.Plane.{byte-list}
 use Rattle.code.specs.Vector.{plane, each-long, is-vector, are-checks, same, differ-values, cut}
 use Rattle.code.specs.Entry.{values-in}
-use Rattle.column.specs.Value.{Vector, Rows, blank, is-blank, bytes-before}
+use Rattle.counting.specs.Value.{Vector, Rows, blank, is-blank, bytes-before, entries}
+use Rattle.counting.specs.Held.{Held, held-as}
+use Rattle.counting.specs.Count.{found, better, most-from, most, agreed-at, agreed-vector, held-of, held-at, held-list}
 use Rattle.column.specs.Frame.{command, operand-size, frame-size, header, command-round, round-in, sender-in, run-in, operand-in, checks-in}
-use Rattle.column.specs.Record.{Rec, Held, held-as, no-frames, opened, taken-at, is-taken, counted, refused-at, raised, with-refused, with-frame, next-round}
+use Rattle.column.specs.Record.{Rec, no-frames, opened, taken-at, is-taken, counted, refused-at, raised, with-refused, with-frame, next-round}
 use Rattle.column.specs.Refusal.{first-of, number-refusal, size-refusal, blank-refusal, round-refusal, slot-refusal, frame-refusal, open-refusal, record-refusal, take-refusal, close-refusal, counts-up}
-use Rattle.column.specs.Exchange.{entries, value-or-blank, heard-at, heard-vector, found, better, most-from, most, agreed-at, agreed-vector, held-of, held-at, held-list}
+use Rattle.column.specs.Exchange.{value-or-blank, heard-at, heard-vector}
 use Rattle.column.specs.Call.{Call, taking, sending, closing, asking, after-take}
 use Rattle.code.proofs.Quick.{quick-summed, quick-zero-from, quick-word, quick-planes-from, quick-checks}
 use Rattle.gradecast.proofs.Quick.{row-test, rows-test}

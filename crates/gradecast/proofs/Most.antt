@@ -12,10 +12,10 @@ use borrow.Author.Tests.{eqb-true, eqb-false, ltb-true, ltb-false}
 use Rattle.code.specs.Settings.{Settings}
 use Rattle.code.specs.Vector.{same}
 use Rattle.code.proofs.Vector.{same-equal}
-use Rattle.column.specs.Value.{Value, Rows, blank, is-blank, bytes-before}
-use Rattle.column.specs.Exchange.{found, better, most-from, most}
-use Rattle.column.proofs.Value.{differ-of-not-same}
-use Rattle.column.proofs.Order.{before-irrefl, before-asym, not-before-trans}
+use Rattle.counting.specs.Value.{Value, Rows, blank, is-blank, bytes-before}
+use Rattle.counting.specs.Count.{found, better, most-from, most}
+use Rattle.counting.proofs.Value.{differ-of-not-same}
+use Rattle.counting.proofs.Order.{before-irrefl, before-asym, not-before-trans}
 use Rattle.gradecast.proofs.Count.{found-two}
 
 -- the best, as against another value: no blank, found as often at least, and with no larger bytes where it is found as often

@@ -12,13 +12,14 @@ use native.Mathlib.Omega.{arith}
 use lib.Dec.{eqb}
 use lib.ListN.{length, length-set, length-replicate}
 use Rattle.code.specs.Settings.{Settings, value-size}
-use Rattle.column.specs.Value.{Value, Rows}
+use Rattle.counting.specs.Value.{Value, Rows}
+use Rattle.counting.specs.Count.{agreed-at, agreed-vector, held-list}
+use Rattle.counting.proofs.Value.{blank-size, entries-length, entries-at}
 use Rattle.column.specs.Frame.{operand-size, operand-in}
 use Rattle.column.specs.Record.{Rec, no-frames, opened, taken-at, counted, with-frame, next-round}
 use Rattle.column.specs.Refusal.{record-refusal, close-refusal}
-use Rattle.column.specs.Exchange.{value-or-blank, heard-at, heard-vector, Table, agreed-at, agreed-vector, held-list}
+use Rattle.column.specs.Exchange.{value-or-blank, heard-at, heard-vector, Table}
 use Rattle.column.specs.Call.{Call, taking, sending, closing, asking, Closed, After-close, Leads}
-use Rattle.column.proofs.Value.{blank-size, entries-length, entries-at}
 use Rattle.gradecast.proofs.Grade.{agreed-is}
 use Rattle.column.proofs.Refusal.{Opens, record-fine, taken-of}
 use Rattle.column.proofs.Frame.{operand-length, none-taken, taken-cases}

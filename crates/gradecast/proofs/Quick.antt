@@ -16,11 +16,11 @@ use Rattle.code.specs.Vector.{is-vector, differ-values}
 use Rattle.code.specs.Promise.{Repairs}
 use Rattle.code.proofs.Bytes.{and-split}
 use Rattle.code.proofs.Vector.{repairs}
-use Rattle.column.specs.Value.{Vector, Rows}
+use Rattle.counting.specs.Value.{Vector, Rows}
+use Rattle.counting.proofs.Bool.{true-not-false}
 use Rattle.column.specs.Frame.{checks-in}
 use Rattle.column.specs.Record.{Rec, counted}
 use Rattle.column.specs.Exchange.{Row, Table}
-use Rattle.column.proofs.Bool.{true-not-false}
 use Rattle.code.proofs.Quick.{quick-checks, checks-quick}
 
 -- a row by the checks received, and a table of such rows

@@ -12,13 +12,13 @@ use lib.ListN.{getD}
 use borrow.Author.Tests.{eq-eqb, ne-eqb}
 use Rattle.code.specs.Settings.{Settings}
 use Rattle.code.specs.Vector.{is-vector, has-checks, differ-values}
-use Rattle.column.specs.Value.{Vector, Rows}
+use Rattle.counting.specs.Value.{Vector, Rows}
+use Rattle.counting.proofs.Value.{entries-at}
 use Rattle.column.specs.Frame.{operand-in, checks-in}
 use Rattle.column.specs.Record.{Rec, opened, counted}
 use Rattle.column.specs.Exchange.{value-or-blank, heard-at, heard-vector, Table}
 use Rattle.column.specs.Call.{Call, Operand}
 use Rattle.gradecast.specs.Promise.{Good, numbers, Among}
-use Rattle.column.proofs.Value.{entries-at}
 use Rattle.gradecast.proofs.Agreement.{Carries, differ-le-t}
 use Rattle.column.proofs.Frame.{frame-operand}
 use Rattle.column.proofs.Rows.{Sized, row-alike, checked-vector, row-of-sender}

@@ -14,7 +14,7 @@ use Rattle.code.specs.Entry.{values-in}
 use Rattle.code.specs.Promise.{Checks-there}
 use Rattle.code.proofs.Vector.{Values, checked-of}
 use Rattle.code.proofs.Checks.{checks-there}
-use Rattle.column.specs.Value.{Value, Vector}
+use Rattle.counting.specs.Value.{Value, Vector}
 use Rattle.column.specs.Frame.{operand-size, checks-in}
 use Rattle.column.specs.Record.{Rec, opened}
 use Rattle.column.specs.Refusal.{send-refusal}

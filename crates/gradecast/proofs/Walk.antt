@@ -10,7 +10,7 @@ use Prim.Native.Nat.{ℕ, _<_, _≤_}
 use native.Mathlib.Nat.{eq-or-lt-of-le}
 use native.Mathlib.Omega.{arith}
 use Rattle.code.specs.Settings.{Settings}
-use Rattle.column.specs.Value.{Value}
+use Rattle.counting.specs.Value.{Value}
 use Rattle.column.specs.Frame.{operand-in}
 use Rattle.column.specs.Record.{Rec, taken-at, is-taken, with-frame}
 use Rattle.column.specs.Refusal.{take-refusal}

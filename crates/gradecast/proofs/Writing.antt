@@ -12,16 +12,16 @@ use Rattle.code.specs.Settings.{Settings, settings, value-size}
 use Rattle.code.specs.Vector.{cut, glued}
 use Rattle.code.specs.Entry.{values-in, in-front}
 use Rattle.code.proofs.Word.{sizes}
-use Rattle.column.specs.Value.{Value, Vector}
+use Rattle.counting.specs.Value.{Value, Vector, entries}
+use Rattle.counting.specs.Held.{Held, held-as, held-in}
+use Rattle.counting.proofs.Value.{entries-length, entries-of, entries-alike}
 use Rattle.column.specs.Frame.{operand-size, frame-size, operand-in}
-use Rattle.column.specs.Record.{Held, held-as, opened, with-frame}
+use Rattle.column.specs.Record.{opened, with-frame}
 use Rattle.column.specs.Refusal.{take-refusal}
-use Rattle.column.specs.Exchange.{entries}
-use Rattle.column.specs.View.{settings-of, frame-in, held-in, view}
+use Rattle.column.specs.View.{settings-of, frame-in, view}
 use Rattle.column.specs.Entry.{no-slot}
 use Rattle.column.specs.declared.record.Slot.{Slot}
 use Rattle.column.specs.declared.record.Column.{Column}
-use Rattle.column.proofs.Value.{entries-length, entries-of, entries-alike}
 use Rattle.column.proofs.Rows.{Sized}
 use Rattle.column.proofs.Refusal.{Opens, taken-of}
 use Rattle.column.proofs.Front.{front-value, front-operand}

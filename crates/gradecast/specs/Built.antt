@@ -7,11 +7,11 @@ use Prim.Native.Nat.{ℕ, _+_, _-_, _≤_, _<_}
 use lib.ListN.{length, getD}
 use Rattle.code.specs.Settings.{Settings, settings-refusal}
 use Rattle.code.specs.Plane.{byte-list}
-use Rattle.column.specs.Value.{Value}
-use Rattle.column.specs.Record.{Held, held-as}
+use Rattle.counting.specs.Value.{Value}
+use Rattle.counting.specs.Held.{Held, held-as, held-in}
 use Rattle.column.specs.Call.{Call, taking, sending, closing, asking}
 use Rattle.gradecast.specs.Promise.{Good, numbers, none-held, all-different, Fair, apart}
-use Rattle.column.specs.View.{held-in, view}
+use Rattle.column.specs.View.{view}
 use Rattle.column.specs.Entry.{Open-says, Take-says, Send-says, Close-says, Result-says}
 use Rattle.column.specs.declared.record.Column.{Column}
 

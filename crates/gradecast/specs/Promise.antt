@@ -7,9 +7,10 @@ use lib.Dec.{eqb}
 use lib.ListN.{length, getD}
 use Rattle.code.specs.Settings.{Settings, settings-refusal}
 use Rattle.code.specs.Plane.{byte-list}
-use Rattle.column.specs.Value.{Value}
+use Rattle.counting.specs.Value.{Value}
+use Rattle.counting.specs.Held.{Held, held-as}
 use Rattle.column.specs.Frame.{run-in}
-use Rattle.column.specs.Record.{Rec, Held, held-as, opened}
+use Rattle.column.specs.Record.{Rec, opened}
 use Rattle.column.specs.Refusal.{open-refusal}
 use Rattle.column.specs.Call.{Call, taking, Run, Passes, Frame-of}
 

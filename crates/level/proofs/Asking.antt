@@ -11,9 +11,10 @@ use lib.ListN.{length, take}
 use borrow.Author.Tests.{lt-ltb, le-ltb, eq-eqb, ne-eqb}
 use Rattle.code.specs.Settings.{settings, value-size}
 use Rattle.code.proofs.Word.{Sizes, sizes}
+use Rattle.counting.specs.Held.{held-in}
 use Rattle.column.specs.Record.{Rec}
 use Rattle.column.specs.Refusal.{ask-refusal, record-refusal}
-use Rattle.column.specs.View.{settings-of, held-in, view}
+use Rattle.column.specs.View.{settings-of, view}
 use Rattle.column.specs.Entry.{Result-says}
 use Rattle.column.specs.declared.record.Column.{Column}
 use Rattle.column.proofs.Refusal.{first-of-zero}

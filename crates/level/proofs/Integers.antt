@@ -13,8 +13,8 @@ use mir.Syntax.{w64}
 use mir.Val.{SFits, toZ, ofZ}
 use mir.Facts.{toZ-ofZ}
 use borrow.Author.Tests.{ltb-true, ltb-false, lt-ltb, le-ltb}
-use Rattle.column.proofs.Bool.{true-not-false}
-use Rattle.column.specs.Value.{Value}
+use Rattle.counting.specs.Value.{Value}
+use Rattle.counting.proofs.Bool.{true-not-false}
 use Rattle.level.specs.Level.{bits, signed, height, halved}
 use Rattle.level.specs.Ends.{Short}
 

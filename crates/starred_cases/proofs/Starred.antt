@@ -18,8 +18,8 @@ use Rattle.code.proofs.Quick.{quick-summed, quick-zero-from, quick-word, quick-
 use Rattle.code.proofs.Vector.{repairs}
 use Rattle.gradecast.specs.Promise.{holds}
 use Rattle.gradecast.proofs.Cases.{three-refused, four-opens, alone-holds}
-use Rattle.column.specs.Value.{is-blank}
-use Rattle.column.specs.Record.{Held, held-as}
+use Rattle.counting.specs.Value.{is-blank}
+use Rattle.counting.specs.Held.{Held, held-as}
 use Rattle.column.proofs.Lines.{first-of-later}
 use Rattle.level.specs.Level.{bits, signed, height, confident, placed, ascending, dropped, needed, without-ends, left, halved, middle, level-of, level-refusal}
 use Rattle.starred_cases.specs.Cases.{product, generator-is, checks-are, repaired-is, opening, alone-ends, level-is, Starred-cases, starred, All-hold, Holds, single, held-bytes, held-blank}

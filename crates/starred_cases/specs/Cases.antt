@@ -10,7 +10,8 @@ use Rattle.code.specs.Settings.{settings}
 use Rattle.code.specs.Polynomial.{generator}
 use Rattle.code.specs.Vector.{has-checks}
 use Rattle.code.specs.Repair.{Repaired, No-repair}
-use Rattle.column.specs.Record.{Rec, Held, held-as, opened}
+use Rattle.counting.specs.Held.{Held, held-as}
+use Rattle.column.specs.Record.{Rec, opened}
 use Rattle.column.specs.Refusal.{open-refusal, ask-refusal}
 use Rattle.column.specs.Call.{Call, Run}
 use Rattle.gradecast.specs.Promise.{none-held}

@@ -4,7 +4,7 @@ use Prim.Native.Nat.{ℕ, _+_, _-_}
 use native.Mathlib.Omega.{arith}
 use borrow.Author.Needs.{needs}
 use lib.ListN.{take, drop}
-use Rattle.column.specs.Value.{is-blank}
+use Rattle.counting.specs.Value.{is-blank}
 use Rattle.bench.specs.Command.{command-in}
 use Rattle.bench.proofs.Faults.{command-at, value-own, value-other}
 use Rattle.bench.proofs.commands.value_refusal.Statement.{statement}

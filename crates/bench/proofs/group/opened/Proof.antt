@@ -5,7 +5,7 @@ use Prim.Native.Nat.{ℕ, _+_, _-_, _≤_, _<_}
 use native.Mathlib.Omega.{arith}
 use borrow.Author.Needs.{needs}
 use lib.ListN.{length, length-set}
-use Rattle.column.specs.Value.{Value}
+use Rattle.counting.specs.Value.{Value}
 use Rattle.column.specs.Record.{opened}
 use Rattle.column.specs.View.{view}
 use Rattle.column.specs.declared.record.Column.{Column}

@@ -4,7 +4,7 @@ use native.Mathlib.Omega.{arith}
 use borrow.Author.Tests.{not-true, not-false}
 use borrow.Author.Needs.{needs}
 use Rattle.code.specs.Settings.{settings, Settings}
-use Rattle.column.specs.View.{held-in}
+use Rattle.counting.specs.Held.{held-in}
 use Rattle.bench.specs.Listing.{column-line}
 use Rattle.bench.specs.Said.{is-good}
 use Rattle.bench.proofs.Text.{put-nothing, put-alike}

@@ -6,9 +6,8 @@ use native.Mathlib.Omega.{arith}
 use borrow.Author.Needs.{needs}
 use lib.ListN.{length, getD, take, drop, length-append}
 use Rattle.code.specs.Settings.{settings}
-use Rattle.column.specs.Record.{held-as}
-use Rattle.column.specs.Exchange.{entries}
-use Rattle.column.specs.View.{held-in}
+use Rattle.counting.specs.Value.{entries}
+use Rattle.counting.specs.Held.{held-as, held-in}
 use Rattle.bench.specs.Listing.{held-text, holdings-text}
 use Rattle.bench.proofs.Text.{Left, left-all, left-room, left-more, left-none}
 use Rattle.bench.proofs.Wording.{held-entry, holdings-all, holdings-next, holdings-none, value-in}

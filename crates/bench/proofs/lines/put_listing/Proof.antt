@@ -4,7 +4,7 @@ use mathlib.Core.List.{List, _++_}
 use Prim.Native.Nat.{ℕ}
 use native.Mathlib.Omega.{arith}
 use borrow.Author.Needs.{needs}
-use Rattle.column.specs.Record.{Held}
+use Rattle.counting.specs.Held.{Held}
 use Rattle.bench.specs.Entry.{listing-room}
 use Rattle.bench.specs.Listing.{group-line, column-lines, listing}
 use Rattle.bench.specs.Finished.{record-of}

@@ -8,10 +8,10 @@ use borrow.Author.Needs.{needs}
 use Rattle.code.specs.Settings.{settings, value-size}
 use Rattle.code.specs.Entry.{values-in}
 use Rattle.code.proofs.Cut.{values-fit}
+use Rattle.counting.proofs.Value.{entries-next}
+use Rattle.counting.proofs.Placed.{Placed, placed-none, placed-more, placed-cut}
 use Rattle.column.specs.Exchange.{heard-at, heard-vector}
 use Rattle.column.specs.View.{settings-of, view}
-use Rattle.column.proofs.Value.{entries-next}
-use Rattle.column.proofs.Placed.{Placed, placed-none, placed-more, placed-cut}
 use Rattle.column.proofs.AfterRound.{inside, heard-slot}
 use Rattle.column.proofs.closing.heard.Statement.{statement}
 use Rattle.column.proofs.closing.heard.Tie as tie

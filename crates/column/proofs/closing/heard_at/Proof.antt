@@ -7,10 +7,10 @@ use lib.ListN.{length, take, drop, length-drop}
 use lib.Seq.{length-take-le}
 use borrow.Author.Needs.{needs}
 use Rattle.code.specs.Settings.{settings, value-size}
-use Rattle.column.specs.Value.{blank}
+use Rattle.counting.specs.Value.{blank}
+use Rattle.counting.proofs.Value.{take-replicate}
 use Rattle.column.specs.Frame.{operand-in}
 use Rattle.column.specs.Exchange.{value-or-blank}
-use Rattle.column.proofs.Value.{take-replicate}
 use Rattle.column.proofs.View.{frame-of-empty, frame-of-taken}
 use Rattle.column.proofs.Front.{front-value}
 use Rattle.column.proofs.closing.heard_at.Statement.{statement}

@@ -2,7 +2,7 @@
 use mathlib.Core.Path.{subst}
 use native.Mathlib.Omega.{arith}
 use Rattle.code.specs.Settings.{Settings, settings}
-use Rattle.column.specs.Value.{Vector}
+use Rattle.counting.specs.Value.{Vector}
 use Rattle.column.specs.View.{settings-of}
 use Rattle.column.specs.Senders.{coded-vector, Slot-rows}
 use Rattle.column.proofs.AfterRound.{inside, rows-table}

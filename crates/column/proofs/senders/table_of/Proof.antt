@@ -9,9 +9,9 @@ use borrow.Author.Needs.{needs}
 use Rattle.code.specs.Settings.{settings, value-size}
 use Rattle.code.specs.Entry.{values-in}
 use Rattle.code.proofs.Word.{sizes}
-use Rattle.column.specs.Table.{Shaped, row-in}
+use Rattle.counting.specs.Table.{Shaped, row-in}
+use Rattle.counting.proofs.Planes.{shape-zeros, row-put-row, row-put-others}
 use Rattle.column.specs.Senders.{coded-settings, coded-vector, slot-past, Slot-row, Slot-rows}
-use Rattle.column.proofs.Planes.{shape-zeros, row-put-row, row-put-others}
 use Rattle.column.proofs.SenderRow.{vector-fits}
 use Rattle.column.proofs.senders.table_of.Statement.{statement}
 use Rattle.column.proofs.senders.table_of.Tie as tie

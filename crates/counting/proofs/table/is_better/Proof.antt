@@ -1,0 +1,82 @@
+-- `is_better` meets its contract: the tests of the definition, one after the other. Assumes nothing.
+use mathlib.Core.Path.{_≡_, sym, _∙_}
+use mathlib.Core.Bool.{true}
+use native.Mathlib.Omega.{arith}
+use lib.ListN.{take}
+use borrow.Author.Needs.{needs}
+use borrow.Author.Tests.{lt-ltb, le-ltb, eq-eqb, ne-eqb}
+use Rattle.counting.specs.Value.{is-blank}
+use Rattle.counting.specs.Table.{better-by}
+use Rattle.counting.proofs.table.is_better.Statement.{statement}
+use Rattle.counting.proofs.table.is_better.Tie as tie
+
+is-blank-requires : tie.Need-is-blank-requires
+is-blank-requires c κs = search needs
+
+returns : tie.Need-returns
+unfolding better-by
+returns c =
+    let a = c .before .before .before .args in
+    let blank : is-blank (take (a .w) (a .a .value)) ≡ true = sym (c .before .is-blank .ensures) ∙ c .if1 .taken in
+    rw blank
+
+is-blank-requires-2 : tie.Need-is-blank-requires-2
+is-blank-requires-2 c κs = search needs
+
+returns-2 : tie.Need-returns-2
+unfolding better-by
+returns-2 c =
+    let d = c .before .before in
+    rw (sym (d .before .before .is-blank .ensures) ∙ d .before .if1 .left, sym (c .before .is-blank2 .ensures) ∙ c .if2 .taken)
+
+returns-3 : tie.Need-returns-3
+unfolding better-by
+returns-3 c =
+    let d = c .before .before .before in
+    let a = d .before .before .before .before .before .before .args in
+    rw (
+      sym (d .before .before .before .before .is-blank .ensures) ∙ d .before .before .before .if1 .left,
+      sym (d .before .is-blank2 .ensures) ∙ d .if2 .left,
+      lt-ltb (a .best .times) (a .a .times) (c .if3 .taken),
+    )
+
+returns-4 : tie.Need-returns-4
+unfolding better-by
+returns-4 c =
+    let d = c .before .before .before .before .before .before in
+    let a = d .before .before .before .before .before .before .args in
+    rw (
+      sym (d .before .before .before .before .is-blank .ensures) ∙ d .before .before .before .if1 .left,
+      sym (d .before .is-blank2 .ensures) ∙ d .if2 .left,
+      le-ltb (a .best .times) (a .a .times) (c .before .before .before .if3 .left),
+      ne-eqb (a .best .times) (a .a .times) (λ e. absurd (omega (arith, c .if4 .taken))),
+    )
+
+is-before-requires : tie.Need-is-before-requires
+is-before-requires c κs = search needs
+
+returns-5 : tie.Need-returns-5
+unfolding better-by
+returns-5 c =
+    let d = c .before .before .before .before .before .before .before in
+    let a = d .before .before .before .before .before .before .args in
+    rw (
+      sym (d .before .before .before .before .is-blank .ensures) ∙ d .before .before .before .if1 .left,
+      sym (d .before .is-blank2 .ensures) ∙ d .if2 .left,
+      le-ltb (a .best .times) (a .a .times) (c .before .before .before .before .if3 .left),
+      eq-eqb (a .best .times) (a .a .times) (omega (arith, c .before .if4 .left, c .before .before .before .before .if3 .left)),
+    )
+    (c .is-before .ensures)
+
+pub is-better-spec : {M : Type 1} → statement M
+is-better-spec =
+    tie.close
+    (tie.spec
+    is-blank-requires
+    returns
+    is-blank-requires-2
+    returns-2
+    returns-3
+    returns-4
+    is-before-requires
+    returns-5)

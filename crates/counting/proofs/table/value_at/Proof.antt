@@ -1,0 +1,72 @@
+-- `value_at` meets its contract: a byte of each plane. Assumes nothing.
+use mathlib.Core.Path.{_≡_, refl}
+use Prim.Native.Nat.{_-_, _≤_}
+use native.Mathlib.Omega.{arith}
+use Rattle.code.specs.Array.{Filled}
+use Rattle.code.proofs.Written.{filled-none, filled-more}
+use Rattle.counting.specs.Table.{byte-in, value-in}
+use Rattle.counting.proofs.Planes.{filled-entries}
+use Rattle.counting.proofs.table.value_at.Statement.{statement}
+use Rattle.counting.proofs.table.value_at.Tie as tie
+
+abbrev Inv-loop : tie.InvT-loop
+Inv-loop table w i k value₀ p₀ value p = (p ≤ w) × Filled 8 p (λ q. byte-in table q i k) value
+
+abbrev μ-loop : tie.MeasureT-loop
+μ-loop table w i k value₀ p₀ value p = w - p
+
+loop-holds : tie.Need-loop-holds Inv-loop μ-loop
+loop-holds c = (omega arith, filled-none 8 _ _ refl)
+
+mul-value : tie.Need-mul-value Inv-loop μ-loop
+mul-value c = omega arith
+
+mul-value-2 : tie.Need-mul-value-2 Inv-loop μ-loop
+mul-value-2 c = omega arith
+
+index-1-value : tie.Need-index-1-value Inv-loop μ-loop
+index-1-value c = omega arith
+
+index-2-value : tie.Need-index-2-value Inv-loop μ-loop
+index-2-value c = omega arith
+
+index-3-value : tie.Need-index-3-value Inv-loop μ-loop
+index-3-value c = omega arith
+
+array-write-value : tie.Need-array-write-value Inv-loop μ-loop
+array-write-value c = omega arith
+
+add-p : tie.Need-add-p Inv-loop μ-loop
+add-p c = omega arith
+
+loop-less : tie.Need-loop-less Inv-loop μ-loop
+loop-less c = omega arith
+
+loop-again : tie.Need-loop-again Inv-loop μ-loop
+unfolding byte-in
+loop-again c = (omega arith, filled-more 8 _ _ _ _ (c .before .before .loop .inv .1) (omega arith) refl)
+
+returns : tie.Need-returns Inv-loop μ-loop
+unfolding value-in
+returns c =
+    let l = c .before .loop in
+    let e : l .p ≡ c .before .before .args .w = omega arith in
+    rw e at (filled-entries 8 (l .p) _ _ (omega arith) (l .inv .1))
+
+pub value-at-spec : {M : Type 1} → statement M
+value-at-spec =
+    tie.close
+    (tie.spec
+    Inv-loop
+    μ-loop
+    loop-holds
+    mul-value
+    mul-value-2
+    index-1-value
+    index-2-value
+    index-3-value
+    array-write-value
+    add-p
+    loop-less
+    loop-again
+    returns)

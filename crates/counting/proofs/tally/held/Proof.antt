@@ -1,0 +1,91 @@
+-- `held` meets its contract: the values one after the other, and their confidences. Assumes nothing.
+use mathlib.Core.Path.{_≡_, refl, sym, ap}
+use Prim.Native.Nat.{_-_, _≤_}
+use native.Mathlib.Omega.{arith}
+use lib.ListN.{length, take}
+use lib.Seq.{length-take-le}
+use borrow.Author.Needs.{needs}
+use Rattle.code.specs.Settings.{settings, value-size}
+use Rattle.code.specs.Array.{Filled}
+use Rattle.code.proofs.Cut.{values-fit}
+use Rattle.code.proofs.Written.{filled-none, filled-more}
+use Rattle.counting.specs.Held.{Held, held-as}
+use Rattle.counting.specs.Count.{held-at, held-list}
+use Rattle.counting.specs.Table.{rows-in}
+use Rattle.counting.proofs.Placed.{Placed, placed-none, placed-more, placed-held}
+use Rattle.counting.proofs.tally.held.Statement.{statement}
+use Rattle.counting.proofs.tally.held.Tie as tie
+
+abbrev Inv-loop : tie.InvT-loop
+Inv-loop n t w table values₀ confidences₀ k₀ values confidences k =
+    (k ≤ n) × Placed w k (λ j. held-at (settings n t w) (rows-in n w table) j .value) values
+    × Filled 32 k (λ j. held-at (settings n t w) (rows-in n w table) j .confidence) confidences
+
+abbrev μ-loop : tie.MeasureT-loop
+μ-loop n t w table values₀ confidences₀ k₀ values confidences k = n - k
+
+loop-holds : tie.Need-loop-holds Inv-loop μ-loop
+loop-holds c = (omega arith, placed-none _ _ _ refl, filled-none _ _ _ refl)
+
+held-at-requires : tie.Need-held-at-requires Inv-loop μ-loop
+held-at-requires c κs = omega arith
+
+array-share-prefix-value : tie.Need-array-share-prefix-value Inv-loop μ-loop
+array-share-prefix-value c = let long : length (c .before .before .held-at .result .value) ≡ 8 = search needs in omega arith
+
+-- the value's bytes
+size : (c : tie.After-held-at Inv-loop μ-loop) →
+    length (take (c .before .before .before .before .args .w) (c .held-at .result .value)) ≡ c .before .before .before .before .args .w
+size c = let long : length (c .held-at .result .value) ≡ 8 = search needs in length-take-le _ (c .held-at .result .value) (omega arith)
+
+slice-aggregate-put-value : tie.Need-slice-aggregate-put-value Inv-loop μ-loop
+slice-aggregate-put-value c = sym (size (c .before .before .before))
+
+put-value-requires : tie.Need-put-value-requires Inv-loop μ-loop
+put-value-requires c κs =
+    let l = size (c .before .before .before) in (omega arith, omega arith, c .before .before .before .before .before .before .loop .inv .1 .long)
+
+array-write-confidences : tie.Need-array-write-confidences Inv-loop μ-loop
+array-write-confidences c = omega arith
+
+add-k : tie.Need-add-k Inv-loop μ-loop
+add-k c = omega arith
+
+loop-less : tie.Need-loop-less Inv-loop μ-loop
+loop-less c = omega arith
+
+loop-again : tie.Need-loop-again Inv-loop μ-loop
+unfolding held-as
+loop-again c =
+    let d = c .before .before .before .before in
+    let l = d .before .before .before .loop in (
+      omega arith,
+      placed-more _ _ _ _ _ _ (l .inv .1) (size d) (ap (λ (h : Held). h .value) (d .held-at .ensures)) (c .put-value .ensures),
+      filled-more 32 _ _ _ _ (l .inv .2) (omega arith) (ap (λ (h : Held). h .confidence) (d .held-at .ensures)),
+    )
+
+returns : tie.Need-returns Inv-loop μ-loop
+unfolding held-list settings value-size
+returns c =
+    let a = c .before .before .args in
+    let l = c .before .loop in
+    let e : l .k ≡ a .n = omega arith in
+    placed-held (settings (a .n) (a .t) (a .w)) _ (l .values) (l .confidences) (rw e at (l .inv .1)) (rw e at (l .inv .2))
+    (values-fit (a .n) (a .w) (omega arith) (omega arith))
+
+pub held-spec : {M : Type 1} → statement M
+held-spec =
+    tie.close
+    (tie.spec
+    Inv-loop
+    μ-loop
+    loop-holds
+    held-at-requires
+    array-share-prefix-value
+    slice-aggregate-put-value
+    put-value-requires
+    array-write-confidences
+    add-k
+    loop-less
+    loop-again
+    returns)

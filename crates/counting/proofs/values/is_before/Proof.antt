@@ -1,0 +1,74 @@
+-- `is_before` meets its contract: the bytes passed are the same, so the first that differ decide. Assumes nothing.
+use mathlib.Core.Path.{_≡_, refl, sym, _∙_}
+use Prim.Native.Nat.{_-_, _≤_}
+use native.Mathlib.Omega.{arith}
+use lib.ListN.{length, take}
+use borrow.Author.Needs.{needs}
+use Rattle.counting.specs.Value.{bytes-before}
+use Rattle.counting.proofs.Bytewise.{left, before-on, before-less, before-more, before-end}
+use Rattle.counting.proofs.values.is_before.Statement.{statement}
+use Rattle.counting.proofs.values.is_before.Tie as tie
+
+abbrev Inv-loop : tie.InvT-loop
+Inv-loop w a b p₀ p =
+    (p ≤ w) × (w ≤ length a) × (w ≤ length b) × (bytes-before (take w a) (take w b) ≡ bytes-before (left w a p) (left w b p))
+
+abbrev μ-loop : tie.MeasureT-loop
+μ-loop w a b p₀ p = w - p
+
+loop-holds : tie.Need-loop-holds Inv-loop μ-loop
+loop-holds c = (search needs, search needs, search needs, refl)
+
+array-read-if1 : tie.Need-array-read-if1 Inv-loop μ-loop
+array-read-if1 c = omega arith
+
+array-read-if1-2 : tie.Need-array-read-if1-2 Inv-loop μ-loop
+array-read-if1-2 c = omega arith
+
+returns : tie.Need-returns Inv-loop μ-loop
+returns c =
+    let l = c .before .before .loop in
+    sym (l .inv .3 ∙ before-less _ _ _ (l .inv .1) (l .inv .2) (l .p) (omega arith) (c .if1 .taken))
+
+array-read-if2 : tie.Need-array-read-if2 Inv-loop μ-loop
+array-read-if2 c = omega arith
+
+array-read-if2-2 : tie.Need-array-read-if2-2 Inv-loop μ-loop
+array-read-if2-2 c = omega arith
+
+returns-2 : tie.Need-returns-2 Inv-loop μ-loop
+returns-2 c =
+    let l = c .before .before .before .loop in
+    sym (l .inv .3 ∙ before-more _ _ _ (l .inv .1) (l .inv .2) (l .p) (omega arith) (c .if2 .taken))
+
+add-p : tie.Need-add-p Inv-loop μ-loop
+add-p c = omega arith
+
+loop-less : tie.Need-loop-less Inv-loop μ-loop
+loop-less c = omega arith
+
+loop-again : tie.Need-loop-again Inv-loop μ-loop
+loop-again c =
+    let l = c .before .before .before .loop in
+    (omega arith, l .inv .1, l .inv .2, l .inv .3 ∙ before-on _ _ _ (l .inv .1) (l .inv .2) (l .p) (omega arith) (omega arith))
+
+returns-3 : tie.Need-returns-3 Inv-loop μ-loop
+returns-3 c = let l = c .before .loop in sym (l .inv .3 ∙ before-end _ _ _ (l .inv .1) (l .inv .2) (l .p) (omega arith))
+
+pub is-before-spec : {M : Type 1} → statement M
+is-before-spec =
+    tie.close
+    (tie.spec
+    Inv-loop
+    μ-loop
+    loop-holds
+    array-read-if1
+    array-read-if1-2
+    returns
+    array-read-if2
+    array-read-if2-2
+    returns-2
+    add-p
+    loop-less
+    loop-again
+    returns-3)

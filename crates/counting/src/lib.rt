@@ -1,0 +1,7 @@
+// Values counted over a table of rows: Y, values and confidences.
+pub mod filling;
+pub mod lent;
+pub mod table;
+pub mod tally;
+mod values;
+pub mod vector;

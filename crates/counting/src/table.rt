@@ -1,0 +1,115 @@
+// Tables of rows: plane p has byte p of every value, by rows and columns, so that byte p of the value in row i, column k
+// stands at [p][i][k].
+ghost use mathlib.Core.Path.{_≡_};
+ghost use mathlib.Core.Bool.{true, false, cond};
+ghost use Prim.Native.Nat.{_≤_, _<_};
+ghost use lib.ListN.{take};
+ghost use Rattle.counting.specs.Count.{found};
+ghost use Rattle.counting.specs.Table.{value-in, rows-in, better-by, next-best, Times-found, Most-found};
+use crate::values;
+
+pub type Table = [[[u8; 32]; 32]; 8];
+
+fn value_at(table: &Table, w: usize, i: usize, k: usize) -> [u8; 8]
+    requires { ⌜ (w ≤ 8) × (i < 32) × (k < 32) ⌝ }
+    ensures { λ r. ⌜ take w r ≡ value-in w (now (table .entry)) i k ⌝ }
+{
+    let mut value = [0u8; 8];
+    let mut p = 0;
+    while p < w {
+        value[p] = table[p][i][k];
+        p += 1;
+    }
+    value
+}
+
+fn one(counts: bool) -> usize
+    ensures { λ r. ⌜ r ≡ cond counts 1 0 ⌝ }
+    ensures small { λ r. ⌜ r ≤ 1 ⌝ }
+{
+    if counts { 1 } else { 0 }
+}
+
+// How often a value is found in column k.
+fn times_found(table: &Table, n: usize, w: usize, k: usize, value: [u8; 8]) -> usize
+    requires { ⌜ (n ≤ 32) × (w ≤ 8) × (k < n) ⌝ }
+    ensures { λ r. ⌜ r ≡ found k (take w value) (rows-in n w (now (table .entry))) ⌝ }
+{
+    let mut times = 0;
+    let mut i = n;
+    while 0 < i {
+        i -= 1;
+        let other = value_at(table, w, i, k);
+        times += one(values::is_same(other, value, w));
+    }
+    times
+}
+
+// A value and how often it is found; the number says nothing of a blank.
+pub struct Counted {
+    pub value: [u8; 8],
+    pub times: usize,
+}
+
+// Whether a value goes before the best so far.
+fn is_better(a: Counted, best: Counted, w: usize) -> bool
+    requires { ⌜ w ≤ 8 ⌝ }
+    ensures { λ r. ⌜ r ≡ better-by (a .times) (best .times) (take w (a .value)) (take w (best .value)) ⌝ }
+{
+    let candidate = a.value;
+    if values::is_blank(candidate, w) {
+        return false;
+    }
+    let best_value = best.value;
+    if values::is_blank(best_value, w) {
+        return true;
+    }
+    if best.times < a.times {
+        return true;
+    }
+    if a.times < best.times {
+        return false;
+    }
+    values::is_before(candidate, best_value, w)
+}
+
+// The better of the value in row i, column k and the best so far. A value that is the best already is not counted again.
+fn next_best(table: &Table, n: usize, w: usize, k: usize, i: usize, best: Counted) -> Counted
+    requires { ⌜ (n ≤ 32) × (w ≤ 8) × (k < n) × (i < n) × Times-found k w (rows-in n w (now table)) best ⌝ }
+    ensures { λ r. ⌜ (take w (r .value) ≡ next-best k (rows-in n w (now (table .entry))) (value-in w (now (table .entry)) i k) (take w (best .value))) × Times-found k w (rows-in n w (now (table .entry))) r ⌝ }
+{
+    let value = value_at(table, w, i, k);
+    let best_value = best.value;
+    if values::is_same(value, best_value, w) {
+        return best;
+    }
+    if values::is_blank(value, w) {
+        return best;
+    }
+    let times = times_found(table, n, w, k, value);
+    let next = Counted {
+        value: value,
+        times: times,
+    };
+    if is_better(next, best, w) {
+        return next;
+    }
+    best
+}
+
+// The most often found value in column k, blank left out, the smallest bytes first on a tie; blank where there is no other.
+pub fn most_found(table: &Table, n: usize, w: usize, k: usize) -> Counted
+    requires { ⌜ (n ≤ 32) × (w ≤ 8) × (k < n) ⌝ }
+    ensures { λ r. ⌜ Most-found n w k (rows-in n w (now (table .entry))) r ⌝ }
+{
+    let mut best = Counted {
+        value: [0u8; 8],
+        times: 0,
+    };
+    let mut i = 0;
+    while i < n {
+        best = next_best(table, n, w, k, i, best);
+        i += 1;
+    }
+    best
+}
