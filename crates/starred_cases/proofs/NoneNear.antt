@@ -17,7 +17,7 @@ use Rattle.code.proofs.Bytes.{bytes-of}
 use Rattle.code.proofs.Word.{Shape}
 use Rattle.code.proofs.Quick.{quick-summed, summed-quick}
 use Rattle.repair.specs.Locator.{massey, start, changed, longer, as-long, against, raised, value}
-use Rattle.repair.specs.Errors.{exponent, error-sum, Located, Explained}
+use Rattle.repair.specs.Errors.{place-exponent, exponent, error-sum, Located, Explained}
 use Rattle.repair.proofs.Complete.{near-explained}
 use Rattle.starred_cases.specs.Cases.{none-near, Holds, single}
 
@@ -60,7 +60,7 @@ fine : (j x : ℕ) → doublings (exponent four j) 1 ≡ x → value sums (211 �
 fine j x place none = ap₂ (value sums) locator-is (power-doublings (exponent four j) ∙ place) ∙ none
 
 each : (j : ℕ) → j < 6 → getD no-errors j 0 ≡ value sums (massey sums 2 .locator) (power 2 (exponent four j))
-unfolding no-errors four settings check-count exponent doublings value eval sums times times-from doubled plus xor-from
+unfolding no-errors four settings check-count exponent place-exponent doublings value eval sums times times-from doubled plus xor-from
 each zero h = sym (fine 0 195 refl refl)
 each (suc zero) h = sym (fine 1 162 refl refl)
 each (suc (suc zero)) h = sym (fine 2 81 refl refl)
