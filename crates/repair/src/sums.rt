@@ -81,30 +81,30 @@ pub fn difference(own: &[u8], checks: &[u8], count: usize, size: usize) -> [u8; 
     rows
 }
 
-// The logarithms of the twenty roots, which are taken from the table that the generator is built of.
+// The logarithms of the twenty roots, which come from the table that the generator is built of.
 fn root_logarithms(logarithms: &[u8; 256]) -> [u8; 20]
     requires { ⌜ Logarithms (now logarithms) ⌝ }
     ensures { λ r. ⌜ Root-logarithms r ⌝ }
 {
     let roots = code::roots::roots();
-    let mut exponents = [0u8; 20];
+    let mut of_roots = [0u8; 20];
     let mut i = 0;
     while i < 20 {
-        exponents[i] = logarithms[roots[i] as usize];
+        of_roots[i] = logarithms[roots[i] as usize];
         i += 1;
     }
-    exponents
+    of_roots
 }
 
 // One power of each root, by its logarithm: 2^255 is 1.
-fn root_powers(powers: &[u8; 255], roots: &[u8; 20], exponent: usize) -> [u8; 20]
-    requires { ⌜ Powers (now powers) × Root-logarithms (now roots) × (exponent ≤ 20) ⌝ }
+fn root_powers(powers: &[u8; 255], logarithms: &[u8; 20], exponent: usize) -> [u8; 20]
+    requires { ⌜ Powers (now powers) × Root-logarithms (now logarithms) × (exponent ≤ 20) ⌝ }
     ensures { λ r. ⌜ Filled 20 20 (λ i. power (root i) exponent) r ⌝ }
 {
     let mut constants = [0u8; 20];
     let mut i = 0;
     while i < 20 {
-        let logarithm = roots[i] as usize;
+        let logarithm = logarithms[i] as usize;
         constants[i] = powers[logarithm * exponent % 255];
         i += 1;
     }
@@ -132,11 +132,11 @@ pub fn syndromes(
     requires { ⌜ Powers (now powers) × Logarithms (now logarithms) × (count ≤ 20) × (8 * count ≤ length (now difference)) ⌝ }
     ensures { λ r. ⌜ Check-sums count count (now (difference .entry)) r ⌝ }
 {
-    let roots = root_logarithms(logarithms);
+    let of_roots = root_logarithms(logarithms);
     let mut sums = [0u8; 160];
     let mut c = 0;
     while c < count {
-        let constants = root_powers(powers, &roots, count - 1 - c);
+        let constants = root_powers(powers, &of_roots, count - 1 - c);
         let at = 8 * c;
         let end = at + 8;
         add_row(&difference[at..end], &constants[..count], &mut sums);

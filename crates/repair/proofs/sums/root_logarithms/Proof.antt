@@ -17,10 +17,10 @@ positive : (i : ℕ) → 1 ≤ root i
 positive i = let z : root i ≡ 0 → ⊥ = root-nonzero i in omega arith
 
 abbrev Inv-loop : tie.InvT-loop
-Inv-loop logarithms roots exponents₀ i₀ exponents i = (i ≤ 20) × Filled 20 i (λ k. getD logarithms (root k) 0) exponents
+Inv-loop logarithms roots of-roots₀ i₀ of-roots i = (i ≤ 20) × Filled 20 i (λ k. getD logarithms (root k) 0) of-roots
 
 abbrev μ-loop : tie.MeasureT-loop
-μ-loop logarithms roots exponents₀ i₀ exponents i = 20 - i
+μ-loop logarithms roots of-roots₀ i₀ of-roots i = 20 - i
 
 roots-requires : tie.Need-roots-requires Inv-loop μ-loop
 roots-requires c κs = search needs
@@ -28,17 +28,17 @@ roots-requires c κs = search needs
 loop-holds : tie.Need-loop-holds Inv-loop μ-loop
 loop-holds c = (omega arith, filled-none _ _ _ refl)
 
-array-read-exponents : tie.Need-array-read-exponents Inv-loop μ-loop
-array-read-exponents c = omega arith
+array-read-of-roots : tie.Need-array-read-of-roots Inv-loop μ-loop
+array-read-of-roots c = omega arith
 
-cast-exponents : tie.Need-cast-exponents Inv-loop μ-loop
-cast-exponents c = search needs
+cast-of-roots : tie.Need-cast-of-roots Inv-loop μ-loop
+cast-of-roots c = search needs
 
-element-copy-out-exponents : tie.Need-element-copy-out-exponents Inv-loop μ-loop
-element-copy-out-exponents c = let i = c .before .loop .i in rw (c .before .before .roots .ensures .entry i (omega arith)) (root-lt i)
+element-copy-out-of-roots : tie.Need-element-copy-out-of-roots Inv-loop μ-loop
+element-copy-out-of-roots c = let i = c .before .loop .i in rw (c .before .before .roots .ensures .entry i (omega arith)) (root-lt i)
 
-array-write-exponents : tie.Need-array-write-exponents Inv-loop μ-loop
-array-write-exponents c = omega arith
+array-write-of-roots : tie.Need-array-write-of-roots Inv-loop μ-loop
+array-write-of-roots c = omega arith
 
 add-i : tie.Need-add-i Inv-loop μ-loop
 add-i c = omega arith
@@ -71,10 +71,10 @@ root-logarithms-spec =
     μ-loop
     roots-requires
     loop-holds
-    array-read-exponents
-    cast-exponents
-    element-copy-out-exponents
-    array-write-exponents
+    array-read-of-roots
+    cast-of-roots
+    element-copy-out-of-roots
+    array-write-of-roots
     add-i
     loop-less
     loop-again

@@ -20,10 +20,10 @@ product-small : (l e : ℕ) → l < 255 → e ≤ 20 → l * e ≤ 255 * 20
 product-small l e h k = mul-le-mul {n₂ = 255} {m₂ = 20} (omega arith) k
 
 abbrev Inv-loop : tie.InvT-loop
-Inv-loop powers roots exponent constants₀ i₀ constants i = (i ≤ 20) × Filled 20 i (λ k. power (root k) exponent) constants
+Inv-loop powers logarithms exponent constants₀ i₀ constants i = (i ≤ 20) × Filled 20 i (λ k. power (root k) exponent) constants
 
 abbrev μ-loop : tie.MeasureT-loop
-μ-loop powers roots exponent constants₀ i₀ constants i = 20 - i
+μ-loop powers logarithms exponent constants₀ i₀ constants i = 20 - i
 
 loop-holds : tie.Need-loop-holds Inv-loop μ-loop
 loop-holds c = (omega arith, filled-none _ _ _ refl)

@@ -9,10 +9,10 @@ use Rattle.repair.proofs.sums.syndromes.Statement.{statement}
 use Rattle.repair.proofs.sums.syndromes.Tie as tie
 
 abbrev Inv-loop : tie.InvT-loop
-Inv-loop powers logarithms difference count roots sums₀ c₀ sums c = (c ≤ count) × Check-sums c count difference sums
+Inv-loop powers logarithms difference count of-roots sums₀ c₀ sums c = (c ≤ count) × Check-sums c count difference sums
 
 abbrev μ-loop : tie.MeasureT-loop
-μ-loop powers logarithms difference count roots sums₀ c₀ sums c = count - c
+μ-loop powers logarithms difference count of-roots sums₀ c₀ sums c = count - c
 
 root-logarithms-requires : tie.Need-root-logarithms-requires Inv-loop μ-loop
 root-logarithms-requires c κs = c .before .pre .1
