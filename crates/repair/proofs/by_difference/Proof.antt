@@ -5,7 +5,7 @@ use native.Mathlib.Omega.{arith}
 use borrow.Author.Tests.{not-true, not-false}
 use Rattle.code.specs.Settings.{settings, value-size}
 use Rattle.code.specs.Entry.{values-in}
-use Rattle.code.proofs.Bytes.{bytes-every}
+use Rattle.code.proofs.Bytes.{Bytes, bytes-every}
 use Rattle.code.proofs.Word.{sizes}
 use Rattle.repair.specs.Entry.{none-found}
 use Rattle.repair.proofs.Answer.{some-bad, decoded-long, copied, sums-spare, answer-none, answer-found, answer-same}
@@ -18,6 +18,24 @@ use Rattle.repair.proofs.by_difference.Tie as tie
 bounds : (c : tie.Start) → let a = c .args in (a .n ≤ 32) × (3 * a .t + 1 ≤ a .n) × (a .w ≤ 8)
 unfolding settings
 bounds c = let z = sizes (settings (c .args .n) (c .args .t) (c .args .w)) (c .pre .0) in (z .few-columns, z .few-bad, z .few-bytes)
+
+-- what is known as soon as the difference is: the arguments, and that what they lend is bytes
+abbrev start : tie.After-difference → tie.Start
+start d = d .before .before .before .before .before
+
+module _ (d : tie.After-difference) where
+  vector-bytes : Bytes (start d .args .vector .now)
+  vector-bytes = bytes-every (start d .args .vector .now) (λ i. d .before .before .before .before .shared-slice-known .given i .fits)
+
+  own-bytes : Bytes (start d .args .own .now)
+  own-bytes = bytes-every (start d .args .own .now) (λ i. d .before .before .before .shared-slice-known2 .given i .fits)
+
+  check-bytes : Bytes (start d .args .checks .now)
+  check-bytes = bytes-every (start d .args .checks .now) (λ i. d .before .before .shared-slice-known3 .given i .fits)
+
+-- the way back from the syndromes to the difference
+abbrev difference-of : tie.After-syndromes → tie.After-difference
+difference-of y = y .before .before .before .before .before .before .before .before .before
 
 mul-count : tie.Need-mul-count
 mul-count c = let z = bounds (c .before .before .before .before) in omega arith
@@ -40,14 +58,14 @@ same-length c = search needs
 returns : tie.Need-returns
 unfolding values-in settings value-size
 returns c =
-    let s = c .before .before .before .before .before .before .before .before .before .before .before .before in
+    let d = c .before .before .before .before .before .before .before in
+    let s = start d in
     let a = s .args in
-    let z = bounds s in
-    let own-bytes = bytes-every (a .own .now) (λ i. c .before .before .before .before .before .before .before .before .before .before .shared-slice-known2 .given i .fits) in
-    let check-bytes = bytes-every (a .checks .now) (λ i. c .before .before .before .before .before .before .before .before .before .shared-slice-known3 .given i .fits) in
-    let rows = c .before .before .before .before .before .before .before .difference in
-    answer-same (a .n) (a .t) (a .w) (a .vector .now) (a .own .now) (a .checks .now) (rows .result) (s .pre .0) own-bytes check-bytes (s .pre .1 .1) (s .pre .1 .2) (rows .ensures) (a .output .now) _ (z .2) (zeros-of _ (rows .result) (c .before .before .before .before .before .is-zero .ensures) (c .before .before .before .before .if1 .taken)) (s .pre .1 .0)
-    (bytes-every (a .vector .now) (λ i. c .before .before .before .before .before .before .before .before .before .before .before .shared-slice-known .given i .fits)) (copied (a .vector .now) (a .output .now) _ (omega (arith, s .pre .1)) (c .before .before .copy-value .ensures))
+    let rows = d .difference in
+    answer-same (a .n) (a .t) (a .w) (a .vector .now) (a .own .now) (a .checks .now) (rows .result) (s .pre .0) (own-bytes d) (check-bytes d)
+    (s .pre .1 .1) (s .pre .1 .2) (rows .ensures) (a .output .now) _ (bounds s .2)
+    (zeros-of _ (rows .result) (c .before .before .before .before .before .is-zero .ensures) (c .before .before .before .before .if1 .taken))
+    (s .pre .1 .0) (vector-bytes d) (copied (a .vector .now) (a .output .now) _ (omega (arith, s .pre .1)) (c .before .before .copy-value .ensures))
 
 powers-requires : tie.Need-powers-requires
 powers-requires c κs = search needs
@@ -59,46 +77,62 @@ slice-aggregate-syndromes : tie.Need-slice-aggregate-syndromes
 slice-aggregate-syndromes c = sym (c .before .before .before .before .before .before .before .before .difference .ensures .long)
 
 syndromes-requires : tie.Need-syndromes-requires
-syndromes-requires c κs = let z = bounds (c .before .before .before .before .before .before .before .before .before .before .before .before .before) in (c .before .before .before .before .powers .ensures, c .before .before .before .logarithms .ensures, omega arith, omega (arith, c .before .before .before .before .before .before .before .before .difference .ensures .long))
+syndromes-requires c κs =
+    let d = c .before .before .before .before .before .before .before .before in
+    let z = bounds (start d) in
+    (c .before .before .before .before .powers .ensures, c .before .before .before .logarithms .ensures, omega arith, omega (arith, d .difference .ensures .long))
 
 slice-aggregate-decode : tie.Need-slice-aggregate-decode
 slice-aggregate-decode c = sym (c .before .before .before .syndromes .ensures .long)
 
 decode-requires : tie.Need-decode-requires
 decode-requires c κs =
-    let s = c .before .before .before .before .before .before .before .before .before .before .before .before .before .before .before .before .before in
+    let y = c .before .before .before in
+    let d = difference-of y in
+    let s = start d in
     let a = s .args in
     let z = bounds s in
-    let own-bytes = bytes-every (a .own .now) (λ i. c .before .before .before .before .before .before .before .before .before .before .before .before .before .before .before .shared-slice-known2 .given i .fits) in
-    let check-bytes = bytes-every (a .checks .now) (λ i. c .before .before .before .before .before .before .before .before .before .before .before .before .before .before .shared-slice-known3 .given i .fits) in
-    let rows = c .before .before .before .before .before .before .before .before .before .before .before .before .difference in (
-      (c .before .before .before .before .before .before .before .before .powers .ensures, c .before .before .before .before .before .before .before .logarithms .ensures),
+    let rows = d .difference in (
+      (y .before .before .before .before .before .powers .ensures, y .before .before .before .before .logarithms .ensures),
       (
-        (omega arith, z .0, some-bad (a .t) (a .w) _ _ (rows .result) _ (c .before .before .before .before .before .before .before .before .before .before .is-zero .ensures) (c .before .before .before .before .before .before .before .before .before .if1 .left) (rows .ensures), omega arith, z .2, c .before .before .before .syndromes .ensures .long),
-        sums-spare (a .n) (a .t) (a .w) (a .vector .now) (a .own .now) (a .checks .now) (rows .result) (s .pre .0) own-bytes check-bytes (s .pre .1 .1) (s .pre .1 .2) (rows .ensures) (c .before .before .before .syndromes .result) (c .before .before .before .syndromes .ensures) (z .2),
+        (
+          omega arith,
+          z .0,
+          some-bad (a .t) (a .w) _ _ (rows .result) _ (y .before .before .before .before .before .before .before .is-zero .ensures)
+              (y .before .before .before .before .before .before .if1 .left) (rows .ensures),
+          omega arith,
+          z .2,
+          y .syndromes .ensures .long,
+        ),
+        sums-spare (a .n) (a .t) (a .w) (a .vector .now) (a .own .now) (a .checks .now) (rows .result) (s .pre .0) (own-bytes d) (check-bytes d)
+            (s .pre .1 .1) (s .pre .1 .2) (rows .ensures) (y .syndromes .result) (y .syndromes .ensures) (z .2),
       ),
     )
 
 returns-2 : tie.Need-returns-2
 unfolding values-in settings value-size none-found
 returns-2 c =
-    let s = c .before .before .before .before .before .before .before .before .before .before .before .before .before .before .before .before .before .before .before .before in
+    let y = c .before .before .before .before .before .before in
+    let d = difference-of y in
+    let s = start d in
     let a = s .args in
-    let z = bounds s in
-    let own-bytes = bytes-every (a .own .now) (λ i. c .before .before .before .before .before .before .before .before .before .before .before .before .before .before .before .before .before .before .shared-slice-known2 .given i .fits) in
-    let check-bytes = bytes-every (a .checks .now) (λ i. c .before .before .before .before .before .before .before .before .before .before .before .before .before .before .before .before .before .shared-slice-known3 .given i .fits) in
-    let rows = c .before .before .before .before .before .before .before .before .before .before .before .before .before .before .before .difference in
-    answer-none (a .n) (a .t) (a .w) (a .vector .now) (a .own .now) (a .checks .now) (rows .result) (s .pre .0) own-bytes check-bytes (s .pre .1 .1) (s .pre .1 .2) (rows .ensures) (c .before .before .before .before .before .before .syndromes .result) (c .before .before .before .before .before .before .syndromes .ensures) (z .2) _ _ (a .output .now) (not-true _ (c .if2 .taken)) (c .before .before .decode .ensures)
+    let rows = d .difference in
+    answer-none (a .n) (a .t) (a .w) (a .vector .now) (a .own .now) (a .checks .now) (rows .result) (s .pre .0) (own-bytes d) (check-bytes d)
+    (s .pre .1 .1) (s .pre .1 .2) (rows .ensures) (y .syndromes .result) (y .syndromes .ensures) (bounds s .2) _ _ (a .output .now)
+    (not-true _ (c .if2 .taken)) (c .before .before .decode .ensures)
 
 slice-aggregate-apply-errors : tie.Need-slice-aggregate-apply-errors
 slice-aggregate-apply-errors c = sym (decoded-long _ _ _ _ _ (not-false _ (c .before .before .before .before .if2 .left)) (c .before .before .before .before .before .before .decode .ensures))
 
 apply-errors-requires : tie.Need-apply-errors-requires
 apply-errors-requires c κs =
-    let s = c .before .before .before .before .before .before .before .before .before .before .before .before .before .before .before .before .before .before .before .before .before .before .before .before .before in
+    let y = c .before .before .before .before .before .before .before .before .before .before .before in
+    let s = start (difference-of y) in
     let z = bounds s in
-    let long = decoded-long _ _ _ _ _ (not-false _ (c .before .before .before .before .before .if2 .left)) (c .before .before .before .before .before .before .before .decode .ensures) in
-    ((c .before .before .before .before .before .before .before .before .before .before .before .before .before .before .before .before .powers .ensures, c .before .before .before .before .before .before .before .before .before .before .before .before .before .before .before .logarithms .ensures), ((z .0, z .2, omega arith), (s .pre .1 .0, s .pre .1 .3)))
+    let long = decoded-long _ _ _ _ _ (not-false _ (c .before .before .before .before .before .if2 .left)) (c .before .before .before .before .before .before .before .decode .ensures) in (
+      (y .before .before .before .before .before .powers .ensures, y .before .before .before .before .logarithms .ensures),
+      ((z .0, z .2, omega arith), (s .pre .1 .0, s .pre .1 .3)),
+    )
 
 same-length-2 : tie.Need-same-length-2
 same-length-2 c = search needs
@@ -106,14 +140,15 @@ same-length-2 c = search needs
 returns-3 : tie.Need-returns-3
 unfolding values-in settings value-size
 returns-3 c =
-    let s = c .before .before .before .before .before .before .before .before .before .before .before .before .before .before .before .before .before .before .before .before .before .before .before .before .before .before .before .before in
+    let y = c .before .before .before .before .before .before .before .before .before .before .before .before .before .before in
+    let d = difference-of y in
+    let s = start d in
     let a = s .args in
-    let z = bounds s in
-    let own-bytes = bytes-every (a .own .now) (λ i. c .before .before .before .before .before .before .before .before .before .before .before .before .before .before .before .before .before .before .before .before .before .before .before .before .before .before .shared-slice-known2 .given i .fits) in
-    let check-bytes = bytes-every (a .checks .now) (λ i. c .before .before .before .before .before .before .before .before .before .before .before .before .before .before .before .before .before .before .before .before .before .before .before .before .before .shared-slice-known3 .given i .fits) in
-    let rows = c .before .before .before .before .before .before .before .before .before .before .before .before .before .before .before .before .before .before .before .before .before .before .before .difference in
-    answer-found (a .n) (a .t) (a .w) (a .vector .now) (a .own .now) (a .checks .now) (rows .result) (s .pre .0) own-bytes check-bytes (s .pre .1 .1) (s .pre .1 .2) (rows .ensures) (c .before .before .before .before .before .before .before .before .before .before .before .before .before .before .syndromes .result) (c .before .before .before .before .before .before .before .before .before .before .before .before .before .before .syndromes .ensures) (z .2) _ _ (a .output .now) _ (not-false _ (c .before .before .before .before .before .before .before .before .if2 .left)) (c .before .before .before .before .before .before .before .before .before .before .decode .ensures)
-    (c .before .before .apply-errors .ensures)
+    let rows = d .difference in
+    answer-found (a .n) (a .t) (a .w) (a .vector .now) (a .own .now) (a .checks .now) (rows .result) (s .pre .0) (own-bytes d) (check-bytes d)
+    (s .pre .1 .1) (s .pre .1 .2) (rows .ensures) (y .syndromes .result) (y .syndromes .ensures) (bounds s .2) _ _ (a .output .now) _
+    (not-false _ (c .before .before .before .before .before .before .before .before .if2 .left))
+    (c .before .before .before .before .before .before .before .before .before .before .decode .ensures) (c .before .before .apply-errors .ensures)
 
 pub by-difference-spec : {M : Type 1} → statement M
 by-difference-spec =
