@@ -10,6 +10,7 @@ use native.Mathlib.Nat.{suc-mul, mul-le-mul, mul-le-mul-right}
 use native.Mathlib.Numerals.{add-one}
 use lib.ListN.{length, getD, take, drop, length-drop, take-append-drop}
 use lib.Seq.{getD-take, getD-drop, length-take-le, ext-getD}
+use Rattle.code.specs.Size.{most-columns, most-checks, value-room, vector-room, checks-room}
 use Rattle.code.specs.Vector.{plane, cut, glued}
 use Rattle.code.specs.Entry.{in-front}
 use Rattle.code.proofs.Bytes.{Bytes, bytes-take, bytes-drop}
@@ -25,14 +26,14 @@ value-fits j n w h = omega (arith, suc-mul j w, mul-le-mul-right w h)
 pub value-ends : (j n w long : ℕ) → j < n → long ≡ n * w → j * w + w ≤ long
 value-ends j n w long h e = omega (arith, value-fits j n w h)
 
-pub start-fits : (j n w : ℕ) → j < n → n * w ≤ 256 → Fits w64 (j * w)
+pub start-fits : (j n w : ℕ) → j < n → Fits w64 (n * w) → Fits w64 (j * w)
 start-fits j n w h l = omega (arith, value-fits j n w h)
 
-pub values-fit : (n w : ℕ) → n ≤ 32 → w ≤ 8 → n * w ≤ 256
+pub values-fit : (n w : ℕ) → n ≤ most-columns → w ≤ value-room → n * w ≤ vector-room
 values-fit n w h l = mul-le-mul h l
 
-pub check-room : (t w : ℕ) → t ≤ 10 → w ≤ 8 → 2 * t * w ≤ 160
-check-room t w h l = mul-le-mul (let e : 2 * t ≤ 20 = omega arith in e) l
+pub check-room : (t w : ℕ) → 2 * t ≤ most-checks → w ≤ value-room → 2 * t * w ≤ checks-room
+check-room t w h l = mul-le-mul h l
 
 -- values
 pub cut-length : (n w : ℕ) (bs : List ℕ) → length (cut n w bs) ≡ n

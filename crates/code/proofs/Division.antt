@@ -17,11 +17,12 @@ use Rattle.field.proofs.Xor.{plus-comm, plus-self, plus-zero, zero-plus}
 use Rattle.field.proofs.Times.{times-plus, times-zero, one-times}
 use Rattle.field.proofs.Power.{power-lt, power-suc, power-zero, power-add, power-mul, order-of-two}
 use Rattle.field.proofs.Logarithm.{times-assoc, times-comm, times-left-comm, times-one}
+use Rattle.code.specs.Size.{row-width}
 use Rattle.code.specs.Settings.{Settings, settings-refusal, check-count}
-use Rattle.code.specs.Polynomial.{eval, added, scaled, root}
+use Rattle.code.specs.Polynomial.{eval, added, scaled, first-exponent, root}
 use Rattle.code.specs.Plane.{syndrome, is-codeword, data-polynomial, check-polynomial}
-use Rattle.code.specs.Array.{Filled}
-use Rattle.code.specs.Lanes.{lane, Products-added, Divided}
+use Rattle.code.specs.Steps.Array.{Filled}
+use Rattle.code.specs.Steps.Lanes.{in-row, lane, Products-added, Divided}
 use Rattle.code.proofs.Bytes.{Bytes, bytes-drop, bytes-reverse}
 use Rattle.code.proofs.Polynomial.{eval-lt, eval-added, eval-scaled, eval-append, eval-zeros, getD-added, getD-scaled, bytes-scaled, length-added, length-scaled}
 use Rattle.code.proofs.Generator.{root-lt}
@@ -34,9 +35,9 @@ use Rattle.code.proofs.Part.{part-lent, part-inside, part-after}
 power-root : (i a b : ℕ) → a + b ≡ 255 → times (power (root i) a) (power (root i) b) ≡ 1
 unfolding root
 power-root i a b e =
-    ap₂ times (power-mul (120 + i) a) (power-mul (120 + i) b) ∙ power-add ((120 + i) * a) ((120 + i) * b)
-    ∙ ap (power 2) (sym (mul-add (120 + i) a b) ∙ ap (λ (k : ℕ). (120 + i) * k) e ∙ mul-comm (120 + i) 255) ∙ sym (power-mul 255 (120 + i))
-    ∙ ap (λ (x : ℕ). power x (120 + i)) order-of-two ∙ one-power (120 + i)
+    ap₂ times (power-mul (first-exponent + i) a) (power-mul (first-exponent + i) b) ∙ power-add ((first-exponent + i) * a) ((first-exponent + i) * b)
+    ∙ ap (power 2) (sym (mul-add (first-exponent + i) a b) ∙ ap (λ (k : ℕ). (first-exponent + i) * k) e ∙ mul-comm (first-exponent + i) 255) ∙ sym (power-mul 255 (first-exponent + i))
+    ∙ ap (λ (x : ℕ). power x (first-exponent + i)) order-of-two ∙ one-power (first-exponent + i)
   where
     one-power : (k : ℕ) → power 1 k ≡ 1
     one-power zero = power-zero 1
@@ -53,14 +54,14 @@ step-value r f rest hs h l e =
 -- a step on rows of planes: the rows above row s get row s's multiples of the feedback
 pub step-lane :
     (p s m : ℕ) (hs rows now : List ℕ) → s + length hs < m → Bytes hs → ((i : ℕ) → getD rows i 0 < 256) →
-    ((j : ℕ) → j < length hs → getD now (8 * (suc s + j) + p) 0 ≡ plus (getD rows (8 * (suc s + j) + p) 0) (times (getD rows (8 * s + p) 0) (getD hs j 0))) →
-    ((j : ℕ) → length hs ≤ j → suc s + j < m → getD now (8 * (suc s + j) + p) 0 ≡ getD rows (8 * (suc s + j) + p) 0) →
-    drop (suc s) (lane p m now) ≡ added (drop (suc s) (lane p m rows)) (scaled (getD rows (8 * s + p) 0) hs)
+    ((j : ℕ) → j < length hs → getD now (in-row (suc s + j) p) 0 ≡ plus (getD rows (in-row (suc s + j) p) 0) (times (getD rows (in-row s p) 0) (getD hs j 0))) →
+    ((j : ℕ) → length hs ≤ j → suc s + j < m → getD now (in-row (suc s + j) p) 0 ≡ getD rows (in-row (suc s + j) p) 0) →
+    drop (suc s) (lane p m now) ≡ added (drop (suc s) (lane p m rows)) (scaled (getD rows (in-row s p) 0) hs)
 step-lane p s m hs rows now h b byte near far =
     ext-getD 0 (drop (suc s) (lane p m now)) (added (drop (suc s) (lane p m rows)) (scaled f hs)) (now-long ∙ sym sum-long) (λ j l. at j (rw now-long at l))
   where
     f : ℕ
-    f = getD rows (8 * s + p) 0
+    f = getD rows (in-row s p) 0
 
     now-long : length (drop (suc s) (lane p m now)) ≡ m - suc s
     now-long = length-drop (suc s) (lane p m now) ∙ ap (λ (k : ℕ). k - suc s) (lane-length p m now)
@@ -71,12 +72,12 @@ step-lane p s m hs rows now h b byte near far =
     sum-long : length (added (drop (suc s) (lane p m rows)) (scaled f hs)) ≡ m - suc s
     sum-long = length-added (drop (suc s) (lane p m rows)) (scaled f hs) (omega (arith, length-scaled f hs, rest-long)) ∙ rest-long
 
-    coefficient : (j : ℕ) → suc s + j < m → getD (added (drop (suc s) (lane p m rows)) (scaled f hs)) j 0 ≡ plus (getD rows (8 * (suc s + j) + p) 0) (times f (getD hs j 0))
+    coefficient : (j : ℕ) → suc s + j < m → getD (added (drop (suc s) (lane p m rows)) (scaled f hs)) j 0 ≡ plus (getD rows (in-row (suc s + j) p) 0) (times f (getD hs j 0))
     coefficient j l =
         getD-added (drop (suc s) (lane p m rows)) (scaled f hs) j (bytes-drop (suc s) (lane p m rows) (lane-bytes p m rows byte)) (bytes-scaled f hs)
         ∙ ap₂ plus (getD-drop (suc s) (lane p m rows) j 0 ∙ lane-at p m rows (suc s + j) l) (getD-scaled f hs j (byte _))
 
-    entry : (j : ℕ) → suc s + j < m → Dec (j < length hs) → getD now (8 * (suc s + j) + p) 0 ≡ plus (getD rows (8 * (suc s + j) + p) 0) (times f (getD hs j 0))
+    entry : (j : ℕ) → suc s + j < m → Dec (j < length hs) → getD now (in-row (suc s + j) p) 0 ≡ plus (getD rows (in-row (suc s + j) p) 0) (times f (getD hs j 0))
     entry j l (yes d) = near j d
     entry j l (no d) =
         far j (omega arith) l ∙ sym (ap (plus _) (ap (times f) (List·getD-eq-default hs 0 (omega arith)) ∙ times-zero f (byte _)) ∙ plus-zero _ (byte _))
@@ -94,9 +95,9 @@ divided-none m hs rows b =
 pub divided-more :
     (s m : ℕ) (hs rows so-far now : List ℕ) → s + length hs < m → Bytes hs → Divided s m hs rows so-far → length now ≡ length so-far →
     ((i : ℕ) → getD now i 0 < 256) →
-    ((j p : ℕ) → j < length hs → p < 8 →
-    getD now (8 * (suc s + j) + p) 0 ≡ plus (getD so-far (8 * (suc s + j) + p) 0) (times (getD so-far (8 * s + p) 0) (getD hs j 0))) →
-    ((j p : ℕ) → length hs ≤ j → suc s + j < m → p < 8 → getD now (8 * (suc s + j) + p) 0 ≡ getD so-far (8 * (suc s + j) + p) 0) →
+    ((j p : ℕ) → j < length hs → p < row-width →
+    getD now (in-row (suc s + j) p) 0 ≡ plus (getD so-far (in-row (suc s + j) p) 0) (times (getD so-far (in-row s p) 0) (getD hs j 0))) →
+    ((j p : ℕ) → length hs ≤ j → suc s + j < m → p < row-width → getD now (in-row (suc s + j) p) 0 ≡ getD so-far (in-row (suc s + j) p) 0) →
     Divided (s + 1) m hs rows now
 divided-more s m hs rows so-far now h b d l byte-now near far = record { long = l ∙ d .long; bytes = byte-now; value = value }
   where
@@ -104,7 +105,7 @@ divided-more s m hs rows so-far now h b d l byte-now near far = record { long = 
     byte = d .bytes
 
     value :
-        (p r : ℕ) → p < 8 → r < 256 → times r (eval hs r) ≡ 1 →
+        (p r : ℕ) → p < row-width → r < 256 → times r (eval hs r) ≡ 1 →
         times (power r (s + 1)) (eval (drop (s + 1) (lane p m now)) r) ≡ eval (lane p m rows) r
     value p r k q e =
         ap₂ (λ (x : ℕ) (y : List ℕ). times x (eval y r)) (ap (power r) (add-one s) ∙ power-suc r s ∙ times-comm r (power r s) q (power-lt r s))
@@ -114,7 +115,7 @@ divided-more s m hs rows so-far now h b d l byte-now near far = record { long = 
         ∙ d .value p r k q e
       where
         f : ℕ
-        f = getD so-far (8 * s + p) 0
+        f = getD so-far (in-row s p) 0
 
         rest : List ℕ
         rest = drop (suc s) (lane p m so-far)
@@ -129,26 +130,26 @@ divided-to {s} {k} {m} {hs} {rows} {now} e d = subst (λ (n : ℕ). Divided n m 
 
 -- a step by products added to the part of the rows that follows row s
 pub divided-part :
-    (s m k : ℕ) (hs value rows so-far part : List ℕ) → k ≡ 8 * length hs → s + length hs < m → length so-far ≡ 8 * m → Bytes hs →
-    Divided s m hs rows so-far → ((i : ℕ) → getD (putMid (8 * s + 8) k so-far part) i 0 < 256) → Filled 8 8 (λ p. getD so-far (8 * s + p) 0) value →
-    Products-added (length hs) value hs (take k (drop (8 * s + 8) so-far)) part → Divided (s + 1) m hs rows (putMid (8 * s + 8) k so-far part)
+    (s m k : ℕ) (hs value rows so-far part : List ℕ) → k ≡ row-width * length hs → s + length hs < m → length so-far ≡ row-width * m → Bytes hs →
+    Divided s m hs rows so-far → ((i : ℕ) → getD (putMid (row-width * s + row-width) k so-far part) i 0 < 256) → Filled row-width row-width (λ p. getD so-far (in-row s p) 0) value →
+    Products-added (length hs) value hs (take k (drop (row-width * s + row-width) so-far)) part → Divided (s + 1) m hs rows (putMid (row-width * s + row-width) k so-far part)
 divided-part s m k hs value rows so-far part e h l b d byte v a =
-    divided-more s m hs rows so-far (putMid (8 * s + 8) k so-far part) h b d (same-len-mid (8 * s + 8) k so-far part (a .long)) byte
+    divided-more s m hs rows so-far (putMid (row-width * s + row-width) k so-far part) h b d (same-len-mid (row-width * s + row-width) k so-far part (a .long)) byte
     (λ j p g q.
-    ap (λ (i : ℕ). getD (putMid (8 * s + 8) k so-far part) i 0) (place j p) ∙ part-inside (8 * s + 8) k so-far part fits long (8 * j + p) (omega arith)
+    ap (λ (i : ℕ). getD (putMid (row-width * s + row-width) k so-far part) i 0) (place j p) ∙ part-inside (row-width * s + row-width) k so-far part fits long (in-row j p) (omega arith)
     ∙ a .sums j p g q
     ∙ ap₂ (λ (x y : ℕ). plus x (times y (getD hs j 0)))
-    (part-lent (8 * s + 8) k so-far (8 * j + p) (omega arith) ∙ ap (λ (i : ℕ). getD so-far i 0) (sym (place j p))) (v .new p q))
-    (λ j p g u q. part-after (8 * s + 8) k so-far part fits long (8 * (suc s + j) + p) (omega arith))
+    (part-lent (row-width * s + row-width) k so-far (in-row j p) (omega arith) ∙ ap (λ (i : ℕ). getD so-far i 0) (sym (place j p))) (v .new p q))
+    (λ j p g u q. part-after (row-width * s + row-width) k so-far part fits long (in-row (suc s + j) p) (omega arith))
   where
-    place : (j p : ℕ) → 8 * (suc s + j) + p ≡ 8 * s + 8 + (8 * j + p)
+    place : (j p : ℕ) → in-row (suc s + j) p ≡ row-width * s + row-width + (in-row j p)
     place j p = omega arith
 
-    fits : 8 * s + 8 + k ≤ length so-far
+    fits : row-width * s + row-width + k ≤ length so-far
     fits = omega arith
 
     long : length part ≡ k
-    long = a .long ∙ length-take-le k (drop (8 * s + 8) so-far) (omega (arith, length-drop (8 * s + 8) so-far))
+    long = a .long ∙ length-take-le k (drop (row-width * s + row-width) so-far) (omega (arith, length-drop (row-width * s + row-width) so-far))
 
 -- n steps over the columns, last first: the rest in reverse is the checks
 pub divided-codeword :

@@ -10,17 +10,18 @@ use native.Mathlib.Decide.{decLt}
 use lib.ListN.{length, getD, take, drop, length-drop, length-reverse, List·getD-append, List·getD-eq-default}
 use lib.Seq.{ext-getD, getD-take, getD-drop, getD-append-add, length-take-le}
 use Rattle.field.specs.Field.{times, inverse}
+use Rattle.code.specs.Size.{most-checks, row-width}
 use Rattle.code.specs.Settings.{Settings, settings, settings-refusal, check-count, value-size}
 use Rattle.code.specs.Polynomial.{eval, root, generator}
 use Rattle.code.specs.Plane.{is-codeword}
 use Rattle.code.specs.Vector.{plane, cut}
 use Rattle.code.specs.Entry.{values-in, Checks-put}
-use Rattle.code.specs.Array.{Filled}
-use Rattle.code.specs.Lanes.{lane, Divided, Loaded, Stored}
+use Rattle.code.specs.Steps.Array.{Filled}
+use Rattle.code.specs.Steps.Lanes.{in-row, lane, Divided, Loaded, Stored}
 use Rattle.code.proofs.Bytes.{Bytes, bytes-drop}
 use Rattle.code.proofs.Polynomial.{eval-ext}
 use Rattle.code.proofs.Generator.{root-lt}
-use Rattle.code.proofs.Word.{Sizes, sizes}
+use Rattle.code.proofs.Word.{Sizes, sizes, value-in-row}
 use Rattle.code.proofs.Vector.{plane-length, plane-bytes, checked-back}
 use Rattle.code.proofs.Lane.{lane-length, lane-at, lane-bytes}
 use Rattle.code.proofs.Cut.{cut-length, cut-values, plane-cut, in-front-cut}
@@ -39,7 +40,7 @@ getD-reverse (x ∷ l) i h = rw (reverse-cons x l) (go (decLt i (length l)) (get
         ap (λ (k : ℕ). getD (reverse l ++ (x ∷ [])) k 0) (let e : i ≡ length (reverse l) + 0 = omega (arith, length-reverse l) in e)
         ∙ getD-append-add (reverse l) (x ∷ []) 0 0 ∙ ap (λ (k : ℕ). getD (x ∷ l) k 0) (let e : 0 ≡ length (x ∷ l) - 1 - i = omega arith in e)
 
-module _ (n count size p : ℕ) (vector : List ℕ) (inside : p < size) (small : size ≤ 8) where
+module _ (n count size p : ℕ) (vector : List ℕ) (inside : p < size) (small : size ≤ row-width) where
   bytes : List ℕ
   bytes = plane p (cut n size vector)
 
@@ -49,19 +50,19 @@ module _ (n count size p : ℕ) (vector : List ℕ) (inside : p < size) (small :
 
   -- the columns' rows at a root
   loaded-value :
-      (rows part : List ℕ) → Loaded n n size vector rows → ((i : ℕ) → i < 8 * (n + count) → getD part i 0 ≡ getD rows i 0) → (r : ℕ) → r < 256 →
+      (rows part : List ℕ) → Loaded n n size vector rows → ((i : ℕ) → i < row-width * (n + count) → getD part i 0 ≡ getD rows i 0) → (r : ℕ) → r < 256 →
       eval (lane p (n + count) part) r ≡ eval (reverse bytes) r
   unfolding bytes
   loaded-value rows part d same r small-root = eval-ext (lane p (n + count) part) (reverse bytes) r small-root (λ i. go i (decLt i n) (decLt i (n + count)))
     where
       go : (i : ℕ) → Dec (i < n) → Dec (i < n + count) → getD (lane p (n + count) part) i 0 ≡ getD (reverse bytes) i 0
       go i (yes a) b =
-          lane-at p (n + count) part i (omega arith) ∙ same (8 * i + p) (omega arith) ∙ d .row i p a inside
+          lane-at p (n + count) part i (omega arith) ∙ same (in-row i p) (omega arith) ∙ d .row i p a inside
           ∙ sym (getD-reverse bytes i (omega (arith, bytes-length))
           ∙ ap (λ (k : ℕ). getD bytes k 0) (let e : length bytes - 1 - i ≡ n - 1 - i = omega (arith, bytes-length) in e)
           ∙ plane-cut n size p vector (n - 1 - i) (omega arith) inside)
       go i (no a) (yes b) =
-          lane-at p (n + count) part i b ∙ same (8 * i + p) (omega arith) ∙ d .above (8 * i + p) (omega arith)
+          lane-at p (n + count) part i b ∙ same (in-row i p) (omega arith) ∙ d .above (in-row i p) (omega arith)
           ∙ sym (List·getD-eq-default (reverse bytes) 0 (omega (arith, length-reverse bytes, bytes-length)))
       go i (no a) (no b) =
           List·getD-eq-default (lane p (n + count) part) 0 (omega (arith, lane-length p (n + count) part))
@@ -69,7 +70,7 @@ module _ (n count size p : ℕ) (vector : List ℕ) (inside : p < size) (small :
 
   -- the rest's rows as they are stored
   stored-checks :
-      (rows part out now : List ℕ) → Stored count n count size rows out now → ((i : ℕ) → i < 8 * (n + count) → getD rows i 0 ≡ getD part i 0) →
+      (rows part out now : List ℕ) → Stored count n count size rows out now → ((i : ℕ) → i < row-width * (n + count) → getD rows i 0 ≡ getD part i 0) →
       plane p (cut count size now) ≡ reverse (drop n (lane p (n + count) part))
   stored-checks rows part out now d same =
       ext-getD 0 (plane p (cut count size now)) (reverse rest) (checks-length ∙ sym (length-reverse rest ∙ rest-length)) (λ c l. at c (rw checks-length at l))
@@ -85,19 +86,19 @@ module _ (n count size p : ℕ) (vector : List ℕ) (inside : p < size) (small :
 
       at : (c : ℕ) → c < count → getD (plane p (cut count size now)) c 0 ≡ getD (reverse rest) c 0
       at c l =
-          plane-cut count size p now c l inside ∙ d .value c p l inside ∙ same (8 * (n + count - 1 - c) + p) (omega arith)
+          plane-cut count size p now c l inside ∙ d .value c p l inside ∙ same (in-row (n + count - 1 - c) p) (omega arith)
           ∙ sym (lane-at p (n + count) part (n + count - 1 - c) (omega arith))
           ∙ sym (getD-reverse rest c (omega (arith, rest-length)) ∙ getD-drop n (lane p (n + count) part) (length rest - 1 - c) 0
           ∙ ap (λ (k : ℕ). getD (lane p (n + count) part) k 0) (let e : n + (length rest - 1 - c) ≡ n + count - 1 - c = omega (arith, rest-length) in e))
 
 -- rows loaded, divided by the feedback and stored are the checks of a plane
 pub encoded :
-    (s : Settings) (p : ℕ) (vector hs loaded part divided rows out now : List ℕ) → settings-refusal s ≡ 0 → p < value-size s → value-size s ≤ 8 →
+    (s : Settings) (p : ℕ) (vector hs loaded part divided rows out now : List ℕ) → settings-refusal s ≡ 0 → p < value-size s → value-size s ≤ row-width →
     length vector ≡ s .n * value-size s → Bytes vector → length hs ≡ check-count s →
     ((j : ℕ) → j < check-count s → getD hs j 0 ≡ times (getD (generator (check-count s)) (j + 1) 0) (inverse (getD (generator (check-count s)) 0 0))) →
-    Loaded (s .n) (s .n) (value-size s) vector loaded → ((i : ℕ) → i < 8 * (s .n + check-count s) → getD part i 0 ≡ getD loaded i 0) →
+    Loaded (s .n) (s .n) (value-size s) vector loaded → ((i : ℕ) → i < row-width * (s .n + check-count s) → getD part i 0 ≡ getD loaded i 0) →
     Divided (s .n) (s .n + check-count s) hs part divided →
-    ((i : ℕ) → i < 8 * (s .n + check-count s) → getD rows i 0 ≡ getD divided i 0) →
+    ((i : ℕ) → i < row-width * (s .n + check-count s) → getD rows i 0 ≡ getD divided i 0) →
     Stored (check-count s) (s .n) (check-count s) (value-size s) rows out now →
     is-codeword s (plane p (cut (s .n) (value-size s) vector)) (plane p (cut (check-count s) (value-size s) now)) ≡ true
 unfolding bytes
@@ -119,9 +120,9 @@ encoded s p vector hs loaded part divided rows out now q h small l b e feed d sa
 -- the whole vector: every plane has its checks, and they stand in front of the output
 pub checks-put :
     (n t w : ℕ) (vector feedback loaded divided rows out now : List ℕ) → settings-refusal (settings n t w) ≡ 0 → length vector ≡ n * w → Bytes vector →
-    Filled 20 (2 * t) (λ j. times (getD (generator (2 * t)) (j + 1) 0) (inverse (getD (generator (2 * t)) 0 0))) feedback → Loaded n n w vector loaded →
-    Divided n (n + length (take (2 * t) feedback)) (take (2 * t) feedback) (take (8 * (n + 2 * t)) loaded) divided →
-    rows ≡ divided ++ drop (8 * (n + 2 * t)) loaded → Stored (2 * t) n (2 * t) w rows out now → 2 * t * w ≤ length out → Bytes now →
+    Filled most-checks (2 * t) (λ j. times (getD (generator (2 * t)) (j + 1) 0) (inverse (getD (generator (2 * t)) 0 0))) feedback → Loaded n n w vector loaded →
+    Divided n (n + length (take (2 * t) feedback)) (take (2 * t) feedback) (take (row-width * (n + 2 * t)) loaded) divided →
+    rows ≡ divided ++ drop (row-width * (n + 2 * t)) loaded → Stored (2 * t) n (2 * t) w rows out now → 2 * t * w ≤ length out → Bytes now →
     Checks-put (settings n t w) vector out now
 unfolding Checks-put settings values-in check-count value-size
 checks-put n t w vector feedback loaded divided rows out now q l b feed d v back st room c = (
@@ -131,7 +132,7 @@ checks-put n t w vector feedback loaded divided rows out now q l b feed d v back
         many = cut-length (2 * t) w now;
         values = cut-values (2 * t) w now (omega (arith, st .long)) c;
         planes = λ p h.
-            encoded s p vector hs loaded (take end loaded) divided rows out now q h (z .few-bytes) l b long
+            encoded s p vector hs loaded (take end loaded) divided rows out now q h (value-in-row s z) l b long
             (λ j k. getD-take (2 * t) feedback j 0 k ∙ feed .new j k) d (λ i k. getD-take end loaded i 0 k)
             (subst (λ (m : ℕ). Divided n (n + m) hs (take end loaded) divided) long v)
             (λ i k. ap (λ (r : List ℕ). getD r i 0) back ∙ List·getD-append divided (drop end loaded) 0 i (omega (arith, v .long, part-length))) st;
@@ -146,7 +147,7 @@ checks-put n t w vector feedback loaded divided rows out now q l b feed d v back
     z = sizes s q
 
     end : ℕ
-    end = 8 * (n + 2 * t)
+    end = row-width * (n + 2 * t)
 
     hs : List ℕ
     hs = take (2 * t) feedback

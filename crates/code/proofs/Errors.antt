@@ -1,6 +1,7 @@
--- Two lists of bytes as places. Where they have u and v for the power k, the place is x = 2^k with y = (u + v)·2^(120 k), so
--- that its share of power sum i is (u + v)·r^k with r = 2^(120 + i) the root i: power sums are values at the roots. Different
--- powers below 255 make different places, and y is zero just where the bytes are equal. Assumes nothing.
+-- Two lists of bytes as places. Where they have u and v for the power k, the place is x = 2^k with y = (u + v)·2^(f·k), f the
+-- exponent of the first root, so that its share of power sum i is (u + v)·r^k with r = 2^(f + i) the root i: power sums are
+-- values at the roots. Different powers below 255 make different places, and y is zero just where the bytes are equal. Assumes
+-- nothing.
 use mathlib.Core.Path.{_≡_, refl, sym, _∙_, ap, ap₂}
 use mathlib.Core.Bool.{true}
 use mathlib.Core.List.{List, [], _∷_, _++_}
@@ -15,7 +16,7 @@ use Rattle.field.proofs.Xor.{plus-self, plus-lt, plus-swap, equal-of-plus-zero}
 use Rattle.field.proofs.Times.{times-lt, zero-times}
 use Rattle.field.proofs.Power.{power-lt, power-add, power-mul, power-nonzero, powers-differ}
 use Rattle.field.proofs.Logarithm.{times-assoc, times-comm, no-zero-divisors, plus-times}
-use Rattle.code.specs.Polynomial.{root}
+use Rattle.code.specs.Polynomial.{first-exponent, root}
 use Rattle.code.specs.Plane.{summed, differ}
 use Rattle.code.proofs.Bytes.{Bytes, count-le}
 use Rattle.code.proofs.Place.{Place, Byte-places, Apart, Different, All-zero, nonzero, apart-append}
@@ -42,7 +43,7 @@ unfoldable pub errors : (above : ℕ) → (us vs : List ℕ) → List Place
 errors zero us vs = []
 errors (suc k) [] vs = []
 errors (suc k) (u ∷ us) [] = []
-errors (suc k) (u ∷ us) (v ∷ vs) = record { x = power 2 k; y = times (plus u v) (power 2 (120 * k)) } ∷ errors k us vs
+errors (suc k) (u ∷ us) (v ∷ vs) = record { x = power 2 k; y = times (plus u v) (power 2 (first-exponent * k)) } ∷ errors k us vs
 
 pub errors-bytes : (m : ℕ) (us vs : List ℕ) → Byte-places (errors m us vs)
 unfolding errors
@@ -52,17 +53,17 @@ errors-bytes (suc k) (u ∷ us) [] = tt
 errors-bytes (suc k) (u ∷ us) (v ∷ vs) = (power-lt 2 k, times-lt _ _, errors-bytes k us vs)
 
 -- power sums
-root-power : (i k : ℕ) → times (power 2 (120 * k)) (power (power 2 k) i) ≡ power (root i) k
+root-power : (i k : ℕ) → times (power 2 (first-exponent * k)) (power (power 2 k) i) ≡ power (root i) k
 unfolding root
 root-power i k =
-    ap (times (power 2 (120 * k))) (power-mul k i) ∙ power-add (120 * k) (k * i)
-    ∙ ap (power 2) (ap (λ (n : ℕ). 120 * k + n) (mul-comm k i) ∙ sym (add-mul 120 i k)) ∙ sym (power-mul (120 + i) k)
+    ap (times (power 2 (first-exponent * k))) (power-mul k i) ∙ power-add (first-exponent * k) (k * i)
+    ∙ ap (power 2) (ap (λ (n : ℕ). first-exponent * k + n) (mul-comm k i) ∙ sym (add-mul first-exponent i k)) ∙ sym (power-mul (first-exponent + i) k)
 
 error-sum :
     (i k u v : ℕ) → u < 256 → v < 256 →
-    times (times (plus u v) (power 2 (120 * k))) (power (power 2 k) i) ≡ plus (times u (power (root i) k)) (times v (power (root i) k))
+    times (times (plus u v) (power 2 (first-exponent * k))) (power (power 2 k) i) ≡ plus (times u (power (root i) k)) (times v (power (root i) k))
 error-sum i k u v h l =
-    times-assoc (plus u v) (power 2 (120 * k)) (power (power 2 k) i) (plus-lt u v) (power-lt 2 (120 * k)) ∙ ap (times (plus u v)) (root-power i k)
+    times-assoc (plus u v) (power 2 (first-exponent * k)) (power (power 2 k) i) (plus-lt u v) (power-lt 2 (first-exponent * k)) ∙ ap (times (plus u v)) (root-power i k)
     ∙ plus-times u v (power (root i) k) h l (power-lt (root i) k)
 
 pub errors-sum :
@@ -104,8 +105,8 @@ errors-different-both (suc k) low (u ∷ us) (v ∷ vs) ds es h l = (
 )
 
 -- no more of them are not zero than the lists have differences
-error-zero : (u v k : ℕ) → eqb u v ≡ true → eqb (times (plus u v) (power 2 (120 * k))) 0 ≡ true
-error-zero u v k e = rw (eqb-true u v e, plus-self v, zero-times (power 2 (120 * k)))
+error-zero : (u v k : ℕ) → eqb u v ≡ true → eqb (times (plus u v) (power 2 (first-exponent * k))) 0 ≡ true
+error-zero u v k e = rw (eqb-true u v e, plus-self v, zero-times (power 2 (first-exponent * k)))
 
 pub errors-count : (m : ℕ) (us vs : List ℕ) → nonzero (errors m us vs) ≤ differ us vs
 unfolding errors nonzero differ
@@ -130,5 +131,5 @@ equal-of-errors-zero (suc k) [] [] h e b c z = refl
 equal-of-errors-zero (suc k) [] (v ∷ vs) h e b c z = absurd (omega arith)
 equal-of-errors-zero (suc k) (u ∷ us) [] h e b c z = absurd (omega arith)
 equal-of-errors-zero (suc k) (u ∷ us) (v ∷ vs) h e b c z =
-    ap₂ _∷_ (equal-of-error-zero u v (120 * k) (b .0) (c .0) (z .0))
+    ap₂ _∷_ (equal-of-error-zero u v (first-exponent * k) (b .0) (c .0) (z .0))
     (equal-of-errors-zero k us vs (omega arith) (omega arith) (b .1) (c .1) (z .1))

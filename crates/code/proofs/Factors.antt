@@ -14,8 +14,9 @@ use Rattle.field.proofs.Xor.{plus-self, zero-plus, equal-of-plus-zero}
 use Rattle.field.proofs.Times.{times-lt, times-zero}
 use Rattle.field.proofs.Logarithm.{times-comm, times-left-comm}
 use Rattle.field.proofs.Division.{inverse-lt, times-inverse}
+use Rattle.code.specs.Size.{most-checks, generator-room}
 use Rattle.code.specs.Polynomial.{eval, scaled, root, generator}
-use Rattle.code.specs.Array.{Filled}
+use Rattle.code.specs.Steps.Array.{Filled}
 use Rattle.code.proofs.Bytes.{Bytes, byte-at}
 use Rattle.code.proofs.Polynomial.{eval-scaled, getD-scaled, length-scaled}
 use Rattle.code.proofs.Generator.{root-lt, getD-factor, generator-length, generator-bytes, generator-root, generator-constant}
@@ -30,13 +31,13 @@ below-at fewer (suc i) h = ap (λ (k : ℕ). getD fewer k 0) (let e : i ≡ suc 
 
 -- the product's coefficients above i, and up to i still the polynomial's
 pub record Factored (c i : ℕ) (fewer product : List ℕ) : Type 0 where
-  pub long : length product ≡ 21
+  pub long : length product ≡ generator-room
   pub old : (k : ℕ) → k ≤ i → getD product k 0 ≡ getD fewer k 0
   pub new : (k : ℕ) → i < k → getD product k 0 ≡ factor-at c fewer k
 
 -- above its highest coefficient the product is zeros, as the polynomial is from there on
 pub factored-none :
-    (c many : ℕ) (fewer : List ℕ) → c < 256 → length fewer ≡ 21 → ((k : ℕ) → many ≤ k → getD fewer k 0 ≡ 0) → Factored c many fewer fewer
+    (c many : ℕ) (fewer : List ℕ) → c < 256 → length fewer ≡ generator-room → ((k : ℕ) → many ≤ k → getD fewer k 0 ≡ 0) → Factored c many fewer fewer
 factored-none c many fewer h l z = record { long = l; old = λ k b. refl; new = above }
   where
     above : (k : ℕ) → many < k → getD fewer k 0 ≡ factor-at c fewer k
@@ -45,7 +46,7 @@ factored-none c many fewer h l z = record { long = l; old = λ k b. refl; new = 
         ∙ sym (ap₂ plus (below-at fewer k (omega arith) ∙ z (k - 1) (omega arith)) (ap (times c) (z k (omega arith)) ∙ times-zero c h) ∙ plus-self 0)
 
 pub factored-more :
-    (c i v : ℕ) (fewer product : List ℕ) → Factored c i fewer product → 1 ≤ i → i < 21 →
+    (c i v : ℕ) (fewer product : List ℕ) → Factored c i fewer product → 1 ≤ i → i < generator-room →
     v ≡ plus (getD product (i - 1) 0) (times c (getD product i 0)) → Factored c (i - 1) fewer (set product i v)
 factored-more c i v fewer product w h b e =
     record {
@@ -66,7 +67,7 @@ factored-more c i v fewer product w h b e =
 -- the lowest coefficient has none below it
 pub factored-whole :
     (c i v : ℕ) (fewer product : List ℕ) → Factored c i fewer product → i ≡ 0 → v ≡ times c (getD product 0 0) →
-    Filled 21 21 (factor-at c fewer) (set product 0 v)
+    Filled generator-room generator-room (factor-at c fewer) (set product 0 v)
 factored-whole c i v fewer product w q e = record { long = length-set product 0 v ∙ w .long; new = λ k l. at k }
   where
     at : (k : ℕ) → getD (set product 0 v) k 0 ≡ factor-at c fewer k
@@ -83,25 +84,25 @@ filled-everywhere size ps array h w i = go (decLt i size)
     go (no l) = List·getD-eq-default array 0 (omega (arith, w .long)) ∙ sym (List·getD-eq-default ps 0 (omega arith))
 
 pub generator-none :
-    (many : ℕ) (zeros : List ℕ) → many ≡ 0 → zeros ≡ replicate 21 0 → Filled 21 21 (λ i. getD (generator many) i 0) (set zeros 0 1)
+    (many : ℕ) (zeros : List ℕ) → many ≡ 0 → zeros ≡ replicate generator-room 0 → Filled generator-room generator-room (λ i. getD (generator many) i 0) (set zeros 0 1)
 unfolding generator
 generator-none (suc k) zeros q e = absurd (omega arith)
 generator-none zero zeros q e = record { long = length-set zeros 0 1 ∙ ap length e; new = at }
   where
-    at : (i : ℕ) → i < 21 → getD (set zeros 0 1) i 0 ≡ getD (1 ∷ []) i 0
+    at : (i : ℕ) → i < generator-room → getD (set zeros 0 1) i 0 ≡ getD (1 ∷ []) i 0
     at zero h = getD-set-same zeros 0 1 0 (omega (arith, ap length e))
     at (suc i) h =
-        getD-set-other zeros 0 (suc i) 1 0 (omega arith) ∙ ap (λ (bytes : List ℕ). getD bytes (suc i) 0) e ∙ getD-replicate 21 (suc i) 0 0 h
+        getD-set-other zeros 0 (suc i) 1 0 (omega arith) ∙ ap (λ (bytes : List ℕ). getD bytes (suc i) 0) e ∙ getD-replicate generator-room (suc i) 0 0 h
 
 -- one root fewer, in an array
-module _ (k : ℕ) (fewer : List ℕ) (h : k < 20) (f : Filled 21 21 (λ i. getD (generator k) i 0) fewer) where
+module _ (k : ℕ) (fewer : List ℕ) (h : k < most-checks) (f : Filled generator-room generator-room (λ i. getD (generator k) i 0) fewer) where
   fewer-at : (i : ℕ) → getD fewer i 0 ≡ getD (generator k) i 0
-  fewer-at = filled-everywhere 21 (generator k) fewer (omega (arith, generator-length k)) f
+  fewer-at = filled-everywhere generator-room (generator k) fewer (omega (arith, generator-length k)) f
 
   pub fewer-above : (i : ℕ) → k < i → getD fewer i 0 ≡ 0
   fewer-above i l = fewer-at i ∙ List·getD-eq-default (generator k) 0 (omega (arith, generator-length k))
 
-  one-more : (c : ℕ) (product : List ℕ) → c ≡ root k → Filled 21 21 (factor-at c fewer) product → Filled 21 21 (λ i. getD (generator (suc k)) i 0) product
+  one-more : (c : ℕ) (product : List ℕ) → c ≡ root k → Filled generator-room generator-room (factor-at c fewer) product → Filled generator-room generator-room (λ i. getD (generator (suc k)) i 0) product
   unfolding generator
   one-more c product e w = record { long = w .long; new = λ i l. w .new i l ∙ coefficient i }
     where
@@ -114,10 +115,10 @@ module _ (k : ℕ) (fewer : List ℕ) (h : k < 20) (f : Filled 21 21 (λ i. getD
           ap₂ plus (below i) (ap₂ times e (fewer-at i)) ∙ sym (getD-factor (root k) (generator k) i (root-lt k) (generator-bytes k))
 
 pub generator-more :
-    (k many c : ℕ) (fewer product : List ℕ) → many ≡ suc k → many ≤ 20 → c ≡ root k → Filled 21 21 (λ i. getD (generator k) i 0) fewer →
-    Filled 21 21 (factor-at c fewer) product → Filled 21 21 (λ i. getD (generator many) i 0) product
+    (k many c : ℕ) (fewer product : List ℕ) → many ≡ suc k → many ≤ most-checks → c ≡ root k → Filled generator-room generator-room (λ i. getD (generator k) i 0) fewer →
+    Filled generator-room generator-room (factor-at c fewer) product → Filled generator-room generator-room (λ i. getD (generator many) i 0) product
 generator-more k many c fewer product q h e f w =
-    subst (λ (m : ℕ). Filled 21 21 (λ i. getD (generator m) i 0) product) (sym q) (one-more k fewer (omega arith) f c product e w)
+    subst (λ (m : ℕ). Filled generator-room generator-room (λ i. getD (generator m) i 0) product) (sym q) (one-more k fewer (omega arith) f c product e w)
 
 -- the feedback, the generator less its lowest coefficient and over it: a root times its value there is 1
 pub feedback-root :
@@ -147,9 +148,9 @@ feedback-root many i hs h e at = go (generator many) (generator-length many) (ge
             ∙ times-comm (getD gs j 0) (inverse g) (byte-at gs j (b .1)) (inverse-lt g) ∙ sym (getD-scaled (inverse g) gs j (inverse-lt g)))
 
 pub feedback-filled :
-    (many : ℕ) (g hs : List ℕ) → many ≤ 20 → Filled 21 21 (λ i. getD (generator many) i 0) g →
-    Filled 20 many (λ j. times (getD g (j + 1) 0) (inverse (getD g 0 0))) hs →
-    Filled 20 many (λ j. times (getD (generator many) (j + 1) 0) (inverse (getD (generator many) 0 0))) hs
+    (many : ℕ) (g hs : List ℕ) → many ≤ most-checks → Filled generator-room generator-room (λ i. getD (generator many) i 0) g →
+    Filled most-checks many (λ j. times (getD g (j + 1) 0) (inverse (getD g 0 0))) hs →
+    Filled most-checks many (λ j. times (getD (generator many) (j + 1) 0) (inverse (getD (generator many) 0 0))) hs
 feedback-filled many g hs h f w =
     record {
       long = w .long;

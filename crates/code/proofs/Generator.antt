@@ -14,23 +14,24 @@ use Rattle.field.proofs.Xor.{plus-self, plus-lt, plus-zero, zero-plus}
 use Rattle.field.proofs.Times.{times-lt, zero-times, times-zero}
 use Rattle.field.proofs.Power.{power-lt, power-nonzero, doublings, power-doublings}
 use Rattle.field.proofs.Logarithm.{no-zero-divisors}
-use Rattle.code.specs.Polynomial.{eval, scaled, root, Roots, times-factor, generator}
+use Rattle.code.specs.Size.{most-checks}
+use Rattle.code.specs.Polynomial.{eval, scaled, first-exponent, root, Roots, times-factor, generator}
 use Rattle.code.proofs.Bytes.{Bytes, byte-at}
 use Rattle.code.proofs.Polynomial.{eval-factor, getD-added, getD-scaled, bytes-added, bytes-scaled, length-added, length-scaled}
 
 -- the roots are bytes but 0
 pub root-lt : (i : ℕ) → root i < 256
 unfolding root
-root-lt i = power-lt 2 (120 + i)
+root-lt i = power-lt 2 (first-exponent + i)
 
 pub root-nonzero : (i : ℕ) → root i ≡ 0 → ⊥
 unfolding root
-root-nonzero i = power-nonzero (120 + i)
+root-nonzero i = power-nonzero (first-exponent + i)
 
-pub roots-tested : (table : List ℕ) → length table ≡ 20 → T (every (λ i. eqb (getD table i 0) (doublings (120 + i) 1)) 20) → Roots table
+pub roots-tested : (table : List ℕ) → length table ≡ most-checks → T (every (λ i. eqb (getD table i 0) (doublings (first-exponent + i) 1)) most-checks) → Roots table
 unfolding root
 roots-tested table e t =
-    record { many = e; entry = λ i h. eqb→eq _ _ (below (λ j. eqb (getD table j 0) (doublings (120 + j) 1)) 20 t i h) ∙ sym (power-doublings (120 + i)) }
+    record { many = e; entry = λ i h. eqb→eq _ _ (below (λ j. eqb (getD table j 0) (doublings (first-exponent + j) 1)) most-checks t i h) ∙ sym (power-doublings (first-exponent + i)) }
 
 -- one more factor
 length-factor : (c : ℕ) (ps : List ℕ) → length (times-factor c ps) ≡ suc (length ps)

@@ -20,8 +20,9 @@ use Rattle.field.proofs.Xor.{plus-assoc, plus-lt}
 use Rattle.field.proofs.Times.{doubled-lt, times-plus, times-zero, times-doubled}
 use Rattle.field.proofs.Logarithm.{times-comm, times-assoc, times-one}
 use Rattle.code.proofs.Written.{all-zero, zero-at}
-use Rattle.code.specs.Array.{Written}
-use Rattle.code.specs.Lanes.{Multiples, Products-added}
+use Rattle.code.specs.Size.{row-width, multiple-rows}
+use Rattle.code.specs.Steps.Array.{Written}
+use Rattle.code.specs.Steps.Lanes.{in-row, Multiples, Products-added}
 
 pub doubled-byte : (a : ℕ) → doubled a < 256
 unfolding doubled
@@ -58,42 +59,41 @@ times-halves a c h l =
 
 -- row 0 and the first bytes of row 1
 pub record First-bytes (many : ℕ) (f : ℕ → ℕ) (rows : List ℕ) : Type 0 where
-  pub long : length rows ≡ 128
-  pub zeros : (p : ℕ) → p < 8 → getD rows p 0 ≡ 0
-  pub ones : (p : ℕ) → p < many → getD rows (8 + p) 0 ≡ f p
+  pub long : length rows ≡ multiple-rows
+  pub zeros : (p : ℕ) → p < row-width → getD rows p 0 ≡ 0
+  pub ones : (p : ℕ) → p < many → getD rows (in-row 1 p) 0 ≡ f p
   pub fits : (p : ℕ) → p < many → f p < 256
 
-pub first-none : (f : ℕ → ℕ) (rows : List ℕ) → length rows ≡ 128 → all-zero rows ≡ true → First-bytes 0 f rows
+pub first-none : (f : ℕ → ℕ) (rows : List ℕ) → length rows ≡ multiple-rows → all-zero rows ≡ true → First-bytes 0 f rows
 first-none f rows e z = record { long = e; zeros = λ p h. zero-at rows z p; ones = λ p h. absurd (omega arith); fits = λ p h. absurd (omega arith) }
 
 pub first-more :
-    (many v : ℕ) (f : ℕ → ℕ) (rows : List ℕ) → many < 8 → v ≡ f many → f many < 256 → First-bytes many f rows → First-bytes (many + 1) f (set rows (8 + many) v)
+    (many v : ℕ) (f : ℕ → ℕ) (rows : List ℕ) → many < row-width → v ≡ f many → f many < 256 → First-bytes many f rows → First-bytes (many + 1) f (set rows (in-row 1 many) v)
 first-more many v f rows h e byte m =
     record {
-      long = length-set rows (8 + many) v ∙ m .long;
-      zeros = λ p l. getD-set-other rows (8 + many) p v 0 (omega arith) ∙ m .zeros p l;
+      long = length-set rows (in-row 1 many) v ∙ m .long;
+      zeros = λ p l. getD-set-other rows (in-row 1 many) p v 0 (omega arith) ∙ m .zeros p l;
       ones =
-          below-more _ many (λ p l. getD-set-other rows (8 + many) (8 + p) v 0 (omega arith) ∙ m .ones p l)
-          (getD-set-same rows (8 + many) v 0 (let g = m .long in omega arith) ∙ e);
+          below-more _ many (λ p l. getD-set-other rows (in-row 1 many) (in-row 1 p) v 0 (omega arith) ∙ m .ones p l)
+          (getD-set-same rows (in-row 1 many) v 0 (let g = m .long in omega arith) ∙ e);
       fits = below-more _ many (m .fits) byte;
     }
 
-pub first-whole : (many : ℕ) (f : ℕ → ℕ) (rows : List ℕ) → many ≡ 8 → First-bytes many f rows → Multiples 2 f rows
+pub first-whole : (many : ℕ) (f : ℕ → ℕ) (rows : List ℕ) → many ≡ row-width → First-bytes many f rows → Multiples 2 f rows
 first-whole many f rows e m = record { long = m .long; row = row }
   where
-    row : (k p : ℕ) → k < 2 → p < 8 → getD rows (8 * k + p) 0 ≡ times (f p) k
-    row zero p h l = ap (λ (i : ℕ). getD rows i 0) (let q : 8 * 0 + p ≡ p = omega arith in q) ∙ m .zeros p l ∙ sym (times-zero (f p) (m .fits p (omega arith)))
-    row (suc zero) p h l =
-        ap (λ (i : ℕ). getD rows i 0) (let q : 8 * 1 + p ≡ 8 + p = omega arith in q) ∙ m .ones p (omega arith) ∙ sym (times-one (f p) (m .fits p (omega arith)))
+    row : (k p : ℕ) → k < 2 → p < row-width → getD rows (in-row k p) 0 ≡ times (f p) k
+    row zero p h l = ap (λ (i : ℕ). getD rows i 0) (let q : in-row 0 p ≡ p = omega arith in q) ∙ m .zeros p l ∙ sym (times-zero (f p) (m .fits p (omega arith)))
+    row (suc zero) p h l = m .ones p (omega arith) ∙ sym (times-one (f p) (m .fits p (omega arith)))
     row (suc (suc k)) p h l = absurd (omega arith)
 
 -- one more row
 multiples-next :
-    (many : ℕ) (f g : ℕ → ℕ) (rows now : List ℕ) → Multiples many f rows → Written (8 * many) 8 g rows now →
-    ((p : ℕ) → p < 8 → g p ≡ times (f p) many) → Multiples (many + 1) f now
+    (many : ℕ) (f g : ℕ → ℕ) (rows now : List ℕ) → Multiples many f rows → Written (row-width * many) row-width g rows now →
+    ((p : ℕ) → p < row-width → g p ≡ times (f p) many) → Multiples (many + 1) f now
 multiples-next many f g rows now m w new = record { long = w .long ∙ m .long; row = λ k p h l. row k p h l (decLt k many) }
   where
-    row : (k p : ℕ) → k < many + 1 → p < 8 → Dec (k < many) → getD now (8 * k + p) 0 ≡ times (f p) k
+    row : (k p : ℕ) → k < many + 1 → p < row-width → Dec (k < many) → getD now (in-row k p) 0 ≡ times (f p) k
     row k p h l (yes a) = w .before _ (omega arith) ∙ m .row k p a l
     row k p h l (no a) =
         let q : k ≡ many = omega arith in
@@ -101,14 +101,14 @@ multiples-next many f g rows now m w new = record { long = w .long ∙ m .long; 
 
 pub multiples-double :
     (w : ℕ) (f : ℕ → ℕ) (rows now : List ℕ) → 1 ≤ w → w ≤ 4 → ((p : ℕ) → f p < 256) → Multiples (2 * w) f rows →
-    Written (8 * (2 * w)) 8 (λ p. doubled (getD rows (8 * w + p) 0)) rows now → Multiples (2 * w + 1) f now
+    Written (row-width * (2 * w)) row-width (λ p. doubled (getD rows (in-row w p) 0)) rows now → Multiples (2 * w + 1) f now
 multiples-double w f rows now h l byte m v =
     multiples-next (2 * w) f _ rows now m v
     (λ p k. ap doubled (m .row w p (omega arith) k) ∙ sym (times-twice (f p) w (byte p) (omega arith)))
 
 pub multiples-join :
     (w k : ℕ) (f : ℕ → ℕ) (rows now : List ℕ) → k < w → plus w k ≡ w + k → ((p : ℕ) → f p < 256) → Multiples (w + k) f rows → 1 ≤ k →
-    Written (8 * (w + k)) 8 (λ p. plus (getD rows (8 * w + p) 0) (getD rows (8 * k + p) 0)) rows now → Multiples (w + k + 1) f now
+    Written (row-width * (w + k)) row-width (λ p. plus (getD rows (in-row w p) 0) (getD rows (in-row k p) 0)) rows now → Multiples (w + k + 1) f now
 multiples-join w k f rows now h e byte m o v =
     multiples-next (w + k) f _ rows now m v
     (λ p l. ap₂ plus (m .row w p (omega arith) l) (m .row k p (omega arith) l) ∙ sym (times-plus (f p) w k (byte p)) ∙ ap (times (f p)) e)
@@ -125,42 +125,42 @@ pub products-none : (value constants rows : List ℕ) → Products-added 0 value
 products-none value constants rows = record { long = refl; sums = λ j p h l. absurd (omega arith); rest = λ i h. refl }
 
 pub products-next :
-    (j : ℕ) (value constants rows so-far now : List ℕ) (g : ℕ → ℕ) → Products-added j value constants rows so-far → Written (8 * j) 8 g so-far now →
-    ((p : ℕ) → p < 8 → g p ≡ plus (getD so-far (8 * j + p) 0) (times (getD value p 0) (getD constants j 0))) →
+    (j : ℕ) (value constants rows so-far now : List ℕ) (g : ℕ → ℕ) → Products-added j value constants rows so-far → Written (row-width * j) row-width g so-far now →
+    ((p : ℕ) → p < row-width → g p ≡ plus (getD so-far (in-row j p) 0) (times (getD value p 0) (getD constants j 0))) →
     Products-added (j + 1) value constants rows now
 products-next j value constants rows so-far now g a w new =
     record { long = w .long ∙ a .long; sums = λ i p h k. sums i p h k (decLt i j); rest = λ i h. w .after i (omega arith) ∙ a .rest i (omega arith) }
   where
     sums :
-        (i p : ℕ) → i < j + 1 → p < 8 → Dec (i < j) →
-        getD now (8 * i + p) 0 ≡ plus (getD rows (8 * i + p) 0) (times (getD value p 0) (getD constants i 0))
+        (i p : ℕ) → i < j + 1 → p < row-width → Dec (i < j) →
+        getD now (in-row i p) 0 ≡ plus (getD rows (in-row i p) 0) (times (getD value p 0) (getD constants i 0))
     sums i p h k (yes d) = w .before _ (omega arith) ∙ a .sums i p d k
     sums i p h k (no d) =
         let e : i ≡ j = omega arith in
-        rw e (w .new p k ∙ new p k ∙ ap (λ (b : ℕ). plus b (times (getD value p 0) (getD constants j 0))) (a .rest (8 * j + p) (omega arith)))
+        rw e (w .new p k ∙ new p k ∙ ap (λ (b : ℕ). plus b (times (getD value p 0) (getD constants j 0))) (a .rest (in-row j p) (omega arith)))
 
 -- by a low and a high multiple
 pub products-more :
     (j : ℕ) (value constants low high rows so-far middle now : List ℕ) → ((p : ℕ) → getD value p 0 < 256) → getD constants j 0 < 256 →
-    Multiples 16 (λ p. getD value p 0) low → Multiples 16 (λ p. doubled (getD low (64 + p) 0)) high →
+    Multiples 16 (λ p. getD value p 0) low → Multiples 16 (λ p. doubled (getD low (in-row 8 p) 0)) high →
     Products-added j value constants rows so-far →
-    Written (8 * j) 8 (λ p. plus (getD so-far (8 * j + p) 0) (getD low (8 * (getD constants j 0 % 16) + p) 0)) so-far middle →
-    Written (8 * j) 8 (λ p. plus (getD middle (8 * j + p) 0) (getD high (8 * (getD constants j 0 / 16) + p) 0)) middle now →
+    Written (row-width * j) row-width (λ p. plus (getD so-far (in-row j p) 0) (getD low (in-row (getD constants j 0 % 16) p) 0)) so-far middle →
+    Written (row-width * j) row-width (λ p. plus (getD middle (in-row j p) 0) (getD high (in-row (getD constants j 0 / 16) p) 0)) middle now →
     Products-added (j + 1) value constants rows now
 products-more j value constants low high rows so-far middle now byte fits l h a w v =
-    products-next j value constants rows so-far now (λ p. plus (plus (getD so-far (8 * j + p) 0) (getD low (8 * (c % 16) + p) 0)) (getD high (8 * (c / 16) + p) 0)) a
+    products-next j value constants rows so-far now (λ p. plus (plus (getD so-far (in-row j p) 0) (getD low (in-row (c % 16) p) 0)) (getD high (in-row (c / 16) p) 0)) a
     (record {
       long = v .long ∙ w .long;
-      new = λ p k. v .new p k ∙ ap (λ (b : ℕ). plus b (getD high (8 * (c / 16) + p) 0)) (w .new p k);
+      new = λ p k. v .new p k ∙ ap (λ (b : ℕ). plus b (getD high (in-row (c / 16) p) 0)) (w .new p k);
       before = λ i k. v .before i k ∙ w .before i k;
       after = λ i k. v .after i k ∙ w .after i k;
     })
-    (λ p k. plus-assoc _ _ _ ∙ ap (plus (getD so-far (8 * j + p) 0)) (product p k))
+    (λ p k. plus-assoc _ _ _ ∙ ap (plus (getD so-far (in-row j p) 0)) (product p k))
   where
     c : ℕ
     c = getD constants j 0
 
-    product : (p : ℕ) → p < 8 → plus (getD low (8 * (c % 16) + p) 0) (getD high (8 * (c / 16) + p) 0) ≡ times (getD value p 0) c
+    product : (p : ℕ) → p < row-width → plus (getD low (in-row (c % 16) p) 0) (getD high (in-row (c / 16) p) 0) ≡ times (getD value p 0) c
     product p g =
         ap₂ plus (l .row (c % 16) p (omega arith) g)
         (h .row (c / 16) p (omega arith) g

@@ -4,13 +4,16 @@ use mathlib.Core.Path.{_≡_, sym, _∙_, ap}
 use mathlib.Core.List.{List, _++_}
 use Prim.Native.Nat.{ℕ, _+_, _-_, _≤_, _<_}
 use native.Mathlib.Omega.{arith}
-use lib.ListN.{length, getD, take, drop, List·getD-append}
+use lib.ListN.{length, getD, take, drop, length-drop, List·getD-append}
 use lib.Seq.{length-take-le, getD-take, getD-drop, getD-append-add}
 use borrow.Rule.Slice.PartMut.{putMid, postOf}
 
 -- the part as it is lent
 pub part-lent : (a k : ℕ) (xs : List ℕ) (j : ℕ) → j < k → getD (take k (drop a xs)) j 0 ≡ getD xs (a + j) 0
 part-lent a k xs j h = getD-take k (drop a xs) j 0 h ∙ getD-drop a xs j 0
+
+pub part-long : (at w : ℕ) (bs : List ℕ) → at + w ≤ length bs → length (take (at + w - at) (drop at bs)) ≡ w
+part-long at w bs h = length-take-le (at + w - at) (drop at bs) (omega (arith, length-drop at bs)) ∙ omega arith
 
 module _ (a k : ℕ) (xs ys : List ℕ) (fits : a + k ≤ length xs) (same : length ys ≡ k) where
   front : length (take a xs) ≡ a

@@ -10,18 +10,18 @@ use lib.ListN.{length}
 use Rattle.field.specs.Field.{plus, times, power}
 use Rattle.field.proofs.Power.{doublings, power-doublings, power-mul, power-mod}
 use Rattle.code.specs.Settings.{Settings, check-count, value-size}
-use Rattle.code.specs.Polynomial.{root}
+use Rattle.code.specs.Polynomial.{first-exponent, root}
 use Rattle.code.specs.Plane.{summed, syndrome, all-zero-from, byte-list, is-codeword}
 use Rattle.code.specs.Vector.{plane, are-checks, planes-from, has-checks}
 
-root-power : (i k : ℕ) → power (root i) k ≡ doublings ((120 + i) * k % 255) 1
+root-power : (i k : ℕ) → power (root i) k ≡ doublings ((first-exponent + i) * k % 255) 1
 unfolding root
-root-power i k = power-mul (120 + i) k ∙ sym (power-mod ((120 + i) * k)) ∙ power-doublings ((120 + i) * k % 255)
+root-power i k = power-mul (first-exponent + i) k ∙ sym (power-mod ((first-exponent + i) * k)) ∙ power-doublings ((first-exponent + i) * k % 255)
 
 -- bytes times falling powers of the root i
 unfoldable pub quick-summed : (i highest : ℕ) → List ℕ → ℕ
 quick-summed i k [] = 0
-quick-summed i k (b ∷ bs) = plus (times b (doublings ((120 + i) * k % 255) 1)) (quick-summed i (k - 1) bs)
+quick-summed i k (b ∷ bs) = plus (times b (doublings ((first-exponent + i) * k % 255) 1)) (quick-summed i (k - 1) bs)
 
 pub summed-quick : (i k : ℕ) (bs : List ℕ) → summed (root i) k bs ≡ quick-summed i k bs
 unfolding summed quick-summed

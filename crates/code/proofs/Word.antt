@@ -11,6 +11,7 @@ use lib.ListN.{length}
 use borrow.Author.Tests.{eqb-true, ltb-false, leb-true, eq-eqb}
 use Rattle.field.specs.Field.{plus}
 use Rattle.field.proofs.Xor.{plus-swap}
+use Rattle.code.specs.Size.{most-columns, value-room, row-width}
 use Rattle.code.specs.Settings.{Settings, settings-refusal, check-count}
 use Rattle.code.specs.Polynomial.{root}
 use Rattle.code.specs.Plane.{syndrome, all-zero-from, byte-list, is-codeword, differ}
@@ -22,10 +23,10 @@ use Rattle.code.proofs.Errors.{summed-below, summed-is-below, errors, e
 -- settings that are not turned down
 pub record Sizes (s : Settings) : Type 0 where
   pub some-columns : 1 ≤ s .n
-  pub few-columns : s .n ≤ 32
+  pub few-columns : s .n ≤ most-columns
   pub few-bad : 3 * s .t + 1 ≤ s .n
   pub some-bytes : 1 ≤ s .w
-  pub few-bytes : s .w ≤ 8
+  pub few-bytes : s .w ≤ value-room
 
 none-applies : (a b c : Bool) → _≡_ {A = ℕ} (cond (not a) 1 (cond b 2 (cond c 0 3))) 0 → (a ≡ true) × (b ≡ false) × (c ≡ true)
 none-applies true false true e = (refl, refl, refl)
@@ -46,6 +47,10 @@ sizes s e =
       some-bytes = leb-true _ _ (bytes .0);
       few-bytes = leb-true _ _ (bytes .1);
     }
+
+-- a row has room for a value
+pub value-in-row : (s : Settings) → Sizes s → s .w ≤ row-width
+value-in-row s z = omega arith
 
 -- n bytes and 2t check bytes
 pub record Shape (s : Settings) (bs cs : List ℕ) : Type 0 where

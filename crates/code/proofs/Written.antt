@@ -11,7 +11,7 @@ use borrow.Author.Tests.{eqb-true}
 use borrow.Author.Count.{below-more}
 use lib.Seq.{getD-set-same, getD-set-other}
 use Rattle.code.proofs.Bytes.{and-split}
-use Rattle.code.specs.Array.{Filled, Written}
+use Rattle.code.specs.Steps.Array.{Filled, Written}
 
 -- an array as it is made, all zero
 abbrev pub all-zero : List ℕ → Bool

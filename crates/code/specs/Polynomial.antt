@@ -5,6 +5,7 @@ use mathlib.Core.List.{List, [], _∷_}
 use Prim.Native.Nat.{ℕ, zero, suc, _+_, _<_}
 use lib.ListN.{length, getD}
 use Rattle.field.specs.Field.{plus, times, power}
+use Rattle.code.specs.Size.{most-checks}
 
 -- the value at x
 unfoldable pub eval : List ℕ → (x : ℕ) → ℕ
@@ -26,13 +27,16 @@ multiplied [] qs = []
 multiplied (p ∷ ps) qs = added (scaled p qs) (0 ∷ multiplied ps qs)
 
 -- the roots: the 120th power of 2 and those that follow
+abbrev pub first-exponent : ℕ
+first-exponent = 120
+
 unfoldable pub root : (i : ℕ) → ℕ
-root i = power 2 (120 + i)
+root i = power 2 (first-exponent + i)
 
 -- the table of the twenty roots
 pub record Roots (table : List ℕ) : Type 0 where
-  pub many : length table ≡ 20
-  pub entry : (i : ℕ) → i < 20 → getD table i 0 ≡ root i
+  pub many : length table ≡ most-checks
+  pub entry : (i : ℕ) → i < most-checks → getD table i 0 ≡ root i
 
 -- times (x − c), which is x + c in this field
 unfoldable pub times-factor : (c : ℕ) → List ℕ → List ℕ

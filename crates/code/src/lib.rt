@@ -4,12 +4,15 @@ pub mod planes;
 mod register;
 pub mod roots;
 pub mod settings;
+pub mod sizes;
 
 ghost use mathlib.Core.Path.{_≡_};
 ghost use Prim.Native.Nat.{_*_, _≤_};
 ghost use lib.ListN.{length};
 ghost use Rattle.code.specs.Settings.{settings, settings-refusal};
 ghost use Rattle.code.specs.Entry.{Checks-says, Checks-put};
+use crate::sizes::GENERATOR_ROOM;
+use crate::sizes::ROW_WIDTH;
 
 // The check values of a vector of n values, in the first 2t·w bytes of the output: 0, or the refusal 1, 2, 3 or 18.
 pub fn check_values(n: u32, t: u32, w: u32, vector: &[u8], output: &mut [u8]) -> u32
@@ -41,11 +44,11 @@ fn put_checks(n: usize, t: usize, w: usize, vector: &[u8], output: &mut [u8])
     let logarithms = field::logarithms();
     let roots = roots::roots();
     let count = 2 * t;
-    let mut generator = [0u8; 21];
+    let mut generator = [0u8; GENERATOR_ROOM];
     register::generator(&powers, &logarithms, &roots, count, &mut generator);
     let feedback = register::feedback(&powers, &logarithms, &generator, count);
     let mut rows = planes::load(vector, n, w);
-    let end = 8 * (n + count);
+    let end = ROW_WIDTH * (n + count);
     register::divide(&feedback[..count], &mut rows[..end], n);
     planes::store(&rows, n, count, w, output);
 }

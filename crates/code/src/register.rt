@@ -8,21 +8,25 @@ ghost use Prim.Native.Nat.{ℕ, _+_, _*_, _≤_, _<_};
 ghost use lib.ListN.{length, getD, replicate};
 ghost use Rattle.field.specs.Field.{plus, times, inverse};
 ghost use Rattle.field.specs.Table.{Powers, Logarithms};
+ghost use Rattle.code.specs.Size.{most-columns, most-checks, generator-room, row-width};
 ghost use Rattle.code.specs.Polynomial.{Roots, generator as «generator-of»};
-ghost use Rattle.code.specs.Array.{Filled};
-ghost use Rattle.code.specs.Lanes.{Divided};
+ghost use Rattle.code.specs.Steps.Array.{Filled};
+ghost use Rattle.code.specs.Steps.Lanes.{in-row, Divided};
 use crate::lanes;
+use crate::sizes::GENERATOR_ROOM;
+use crate::sizes::MOST_CHECKS;
+use crate::sizes::ROW_WIDTH;
 
 // The polynomial becomes its product by (x + c), from the new highest coefficient on. Past its coefficients the array holds zeros.
 fn times_factor(
     powers: &[u8; 255],
     logarithms: &[u8; 256],
     c: u8,
-    polynomial: &mut [u8; 21],
+    polynomial: &mut [u8; GENERATOR_ROOM],
     many: usize,
 )
-    requires { ⌜ Powers (now powers) × Logarithms (now logarithms) × (many ≤ 20) × (length (now polynomial) ≡ 21) × ((i : ℕ) → many ≤ i → getD (now polynomial) i 0 ≡ 0) ⌝ }
-    ensures { λ _. ⌜ Filled 21 21 (λ i. plus (getD (0 ∷ now (polynomial .entry)) i 0) (times c (getD (now (polynomial .entry)) i 0))) (now (polynomial .exit)) ⌝ }
+    requires { ⌜ Powers (now powers) × Logarithms (now logarithms) × (many ≤ most-checks) × (length (now polynomial) ≡ generator-room) × ((i : ℕ) → many ≤ i → getD (now polynomial) i 0 ≡ 0) ⌝ }
+    ensures { λ _. ⌜ Filled generator-room generator-room (λ i. plus (getD (0 ∷ now (polynomial .entry)) i 0) (times c (getD (now (polynomial .entry)) i 0))) (now (polynomial .exit)) ⌝ }
 {
     let mut i = many;
     while 0 < i {
@@ -38,12 +42,12 @@ fn times_factor(
 pub fn generator(
     powers: &[u8; 255],
     logarithms: &[u8; 256],
-    roots: &[u8; 20],
+    roots: &[u8; MOST_CHECKS],
     many: usize,
-    coefficients: &mut [u8; 21],
+    coefficients: &mut [u8; GENERATOR_ROOM],
 )
-    requires { ⌜ Powers (now powers) × Logarithms (now logarithms) × Roots (now roots) × (many ≤ 20) × (now coefficients ≡ replicate 21 0) ⌝ }
-    ensures { λ _. ⌜ Filled 21 21 (λ i. getD (generator-of many) i 0) (now (coefficients .exit)) ⌝ }
+    requires { ⌜ Powers (now powers) × Logarithms (now logarithms) × Roots (now roots) × (many ≤ most-checks) × (now coefficients ≡ replicate generator-room 0) ⌝ }
+    ensures { λ _. ⌜ Filled generator-room generator-room (λ i. getD (generator-of many) i 0) (now (coefficients .exit)) ⌝ }
 {
     if many == 0 {
         coefficients[0] = 1;
@@ -57,14 +61,14 @@ pub fn generator(
 pub fn feedback(
     powers: &[u8; 255],
     logarithms: &[u8; 256],
-    generator: &[u8; 21],
+    generator: &[u8; GENERATOR_ROOM],
     many: usize,
-) -> [u8; 20]
-    requires { ⌜ Powers (now powers) × Logarithms (now logarithms) × (many ≤ 20) ⌝ }
-    ensures { λ r. ⌜ Filled 20 many (λ j. times (getD (now (generator .entry)) (j + 1) 0) (inverse (getD (now (generator .entry)) 0 0))) r ⌝ }
+) -> [u8; MOST_CHECKS]
+    requires { ⌜ Powers (now powers) × Logarithms (now logarithms) × (many ≤ most-checks) ⌝ }
+    ensures { λ r. ⌜ Filled most-checks many (λ j. times (getD (now (generator .entry)) (j + 1) 0) (inverse (getD (now (generator .entry)) 0 0))) r ⌝ }
 {
     let lowest = field::inverse_by(powers, logarithms, generator[0]);
-    let mut rest = [0u8; 20];
+    let mut rest = [0u8; MOST_CHECKS];
     let mut j = 0;
     while j < many {
         rest[j] = field::product_by(powers, logarithms, generator[j + 1], lowest);
@@ -73,15 +77,15 @@ pub fn feedback(
     rest
 }
 
-// The row's eight bytes.
-fn row(rows: &[u8], s: usize) -> [u8; 8]
-    requires { ⌜ (s < 64) × (8 * s + 8 ≤ length (now rows)) ⌝ }
-    ensures { λ r. ⌜ Filled 8 8 (λ p. getD (now (rows .entry)) (8 * s + p) 0) r ⌝ }
+// The row's bytes.
+fn row(rows: &[u8], s: usize) -> [u8; ROW_WIDTH]
+    requires { ⌜ (s < most-columns) × (row-width * s + row-width ≤ length (now rows)) ⌝ }
+    ensures { λ r. ⌜ Filled row-width row-width (λ p. getD (now (rows .entry)) (in-row s p) 0) r ⌝ }
 {
-    let mut value = [0u8; 8];
+    let mut value = [0u8; ROW_WIDTH];
     let mut p = 0;
-    while p < 8 {
-        value[p] = rows[8 * s + p];
+    while p < ROW_WIDTH {
+        value[p] = rows[ROW_WIDTH * s + p];
         p += 1;
     }
     value
@@ -89,15 +93,15 @@ fn row(rows: &[u8], s: usize) -> [u8; 8]
 
 // Takes the rows of the columns out one after the other: each adds its multiples of the feedback to the rows above it.
 pub fn divide(feedback: &[u8], rows: &mut [u8], n: usize)
-    requires { ⌜ (n ≤ 32) × (length (now feedback) ≤ 20) × (length (now rows) ≡ 8 * (n + length (now feedback))) ⌝ }
+    requires { ⌜ (n ≤ most-columns) × (length (now feedback) ≤ most-checks) × (length (now rows) ≡ row-width * (n + length (now feedback))) ⌝ }
     ensures { λ _. ⌜ Divided n (n + length (now (feedback .entry))) (now (feedback .entry)) (now (rows .entry)) (now (rows .exit)) ⌝ }
 {
     let many = feedback.len();
     let mut s = 0;
     while s < n {
         let value = row(rows, s);
-        let from = 8 * s + 8;
-        let to = from + 8 * many;
+        let from = ROW_WIDTH * s + ROW_WIDTH;
+        let to = from + ROW_WIDTH * many;
         lanes::add_products(&value, feedback, &mut rows[from..to]);
         s += 1;
     }

@@ -1,7 +1,8 @@
 // The twenty roots as a constant table: the 120th to the 139th power of 2.
 ghost use Rattle.code.specs.Polynomial.{Roots};
+use crate::sizes::MOST_CHECKS;
 
-const ROOTS: [u8; 20] = [
+const ROOTS: [u8; MOST_CHECKS] = [
     225,
     69,
     138,
@@ -24,7 +25,7 @@ const ROOTS: [u8; 20] = [
     166,
 ];
 
-pub fn roots() -> [u8; 20]
+pub fn roots() -> [u8; MOST_CHECKS]
     ensures { λ r. ⌜ Roots r ⌝ }
 {
     ROOTS

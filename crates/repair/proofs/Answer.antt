@@ -9,7 +9,8 @@ use native.Mathlib.Omega.{arith}
 use lib.ListN.{length, getD, drop, replicate, length-replicate, length-append, length-drop, List·getD-append}
 use lib.Seq.{take-all, ext-getD, getD-append-add, getD-drop}
 use native.Mathlib.Decide.{decLt}
-use Rattle.code.specs.Array.{Written}
+use Rattle.code.specs.Size.{row-width, place-rows}
+use Rattle.code.specs.Steps.Array.{Written}
 use Rattle.field.proofs.Xor.{plus-zero}
 use Rattle.code.specs.Settings.{Settings, settings, settings-refusal, check-count, value-size}
 use Rattle.code.specs.Polynomial.{root, added}
@@ -17,7 +18,7 @@ use Rattle.code.specs.Plane.{syndrome, is-codeword}
 use Rattle.code.specs.Vector.{plane, cut, glued}
 use Rattle.code.specs.Repair.{Near}
 use Rattle.code.specs.Entry.{values-in, in-front}
-use Rattle.code.specs.Lanes.{lane}
+use Rattle.code.specs.Steps.Lanes.{in-row, lane}
 use Rattle.code.proofs.Bytes.{Bytes, bytes-zeros}
 use Rattle.code.proofs.Cut.{cut-length, cut-values, glued-cut}
 use Rattle.code.proofs.Lane.{lane-length, lane-at, lane-zeros, lane-bytes}
@@ -26,12 +27,12 @@ use Rattle.code.proofs.Vector.{Values, plane-length, plane-bytes, vector-back}
 use Rattle.code.proofs.Word.{sizes, word-back}
 use Rattle.repair.specs.Difference.{plus-values, zeros}
 use Rattle.repair.specs.Entry.{Done-by, none-found}
-use Rattle.repair.specs.Rows.{Values-added, Check-sums, Zeros-as}
-use Rattle.repair.specs.Search.{column-errors}
-use Rattle.repair.specs.Planes.{plane-sums, Decoded-as}
-use Rattle.repair.proofs.CheckRows.{values-lane, spare-lane}
-use Rattle.repair.proofs.CheckSums.{syndrome-zeros, summed-zeros, check-sums-syndrome, check-sums-spare}
-use Rattle.repair.proofs.Decoder.{sound, complete-size, complete}
+use Rattle.sums.specs.Rows.{Values-added, Check-sums, Zeros-as}
+use Rattle.repair.specs.Steps.Columns.{column-errors}
+use Rattle.repair.specs.Steps.Planes.{plane-sums, Decoded-as}
+use Rattle.sums.proofs.CheckRows.{values-lane, spare-lane}
+use Rattle.sums.proofs.CheckSums.{syndrome-zeros, summed-zeros, check-sums-syndrome, check-sums-spare}
+use Rattle.locator.proofs.Decoder.{sound, complete-size, complete}
 use Rattle.repair.proofs.Located.{column-errors-vector, column-errors-plane}
 use Rattle.repair.proofs.OwnVector.{plane-plus, plane-zeros, plus-values-length, plus-values-values}
 
@@ -69,7 +70,7 @@ some-bad zero w own checks rows false (i, other) q d = absurd (other (d .beyond 
 some-bad (suc t) w own checks rows false z q d = omega arith
 
 pub decoded-long :
-    (found : Bool) (planes : ℕ) (s : Settings) (sums weighted : List ℕ) → found ≡ true → Decoded-as found planes s sums weighted → length weighted ≡ 416
+    (found : Bool) (planes : ℕ) (s : Settings) (sums weighted : List ℕ) → found ≡ true → Decoded-as found planes s sums weighted → length weighted ≡ place-rows
 unfolding Decoded-as
 decoded-long true planes s sums weighted e d = d .long
 decoded-long false planes s sums weighted e d = absurd (let y : _≡_ {A = ℕ} 0 1 = cc in omega arith)
@@ -124,13 +125,13 @@ module _ (n t w : ℕ) (vector own checks rows : List ℕ) (allowed : settings-r
   apart-lane p h = values-lane (2 * t) w own checks rows difference p h ∙ sym (plane-plus p w ours theirs ours-values theirs-values)
 
   -- the sums are its syndromes
-  module _ (sums : List ℕ) (summed : Check-sums (2 * t) (2 * t) rows sums) (small : w ≤ 8) where
+  module _ (sums : List ℕ) (summed : Check-sums (2 * t) (2 * t) rows sums) (small : w ≤ row-width) where
     same-sums : (p : ℕ) → p < w → (i : ℕ) → i < 2 * t → plane-sums p (2 * t) sums i ≡ syndrome s i (replicate n 0) (plane p apart)
     unfolding settings check-count
     same-sums p h i l =
         lane-at p (2 * t) sums i l ∙ check-sums-syndrome s n (2 * t) rows sums refl summed i p l (omega arith) ∙ ap (syndrome s i (replicate n 0)) (apart-lane p h)
 
-    pub sums-spare : (i p : ℕ) → i < 2 * t → w ≤ p → p < 8 → getD sums (8 * i + p) 0 ≡ 0
+    pub sums-spare : (i p : ℕ) → i < 2 * t → w ≤ p → p < row-width → getD sums (in-row i p) 0 ≡ 0
     sums-spare i p h l k = check-sums-spare (2 * t) rows sums summed i p h k (spare-lane (2 * t) w own checks rows difference p l k)
 
     -- some plane does not decode
@@ -182,7 +183,7 @@ module _ (n t w : ℕ) (vector own checks rows : List ℕ) (allowed : settings-r
 
   -- the difference is zero: the zeros are a codeword with no checks
   pub answer-same :
-      (out now : List ℕ) → w ≤ 8 → ((i : ℕ) → getD rows i 0 ≡ 0) → length vector ≡ n * w → Bytes vector → now ≡ in-front vector out →
+      (out now : List ℕ) → w ≤ row-width → ((i : ℕ) → getD rows i 0 ≡ 0) → length vector ≡ n * w → Bytes vector → now ≡ in-front vector out →
       Done-by s (values-in s n vector) ours theirs 0 out now
   unfolding settings check-count value-size Done-by values-in zeros
   answer-same out now small z l b back =
@@ -197,7 +198,7 @@ module _ (n t w : ℕ) (vector own checks rows : List ℕ) (allowed : settings-r
               record {
                 codeword = ap₂ (is-codeword s) (plane-zeros s p) refl ∙ zero-codeword;
                 within =
-                    rw (plane-zeros s p, sym (apart-lane p h) ∙ lane-zeros p (2 * t) rows (λ j k. z (8 * j + p)))
+                    rw (plane-zeros s p, sym (apart-lane p h) ∙ lane-zeros p (2 * t) rows (λ j k. z (in-row j p)))
                     (omega (arith, differ-self (replicate n 0), differ-self (replicate (2 * t) 0)));
               },
             );

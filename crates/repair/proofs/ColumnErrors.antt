@@ -13,17 +13,18 @@ use Rattle.field.specs.Field.{plus, times, power, inverse}
 use Rattle.field.proofs.Xor.{plus-zero}
 use Rattle.field.proofs.Times.{times-zero}
 use Rattle.field.proofs.Power.{power-lt}
-use Rattle.code.specs.Array.{Filled, Written}
-use Rattle.code.specs.Polynomial.{added, scaled}
+use Rattle.code.specs.Size.{row-width}
+use Rattle.code.specs.Steps.Array.{Filled, Written}
+use Rattle.code.specs.Polynomial.{first-exponent, added, scaled}
 use Rattle.code.specs.Vector.{cut, glued}
 use Rattle.code.specs.Entry.{in-front}
 use Rattle.code.proofs.Bytes.{Bytes, bytes-take, bytes-drop}
 use Rattle.code.proofs.Polynomial.{getD-added, getD-scaled, length-added, length-scaled, bytes-scaled}
 use Rattle.code.proofs.Cut.{next-value, cut-length}
 use Rattle.repair.specs.Difference.{plus-values}
-use Rattle.repair.specs.Search.{column-errors}
-use Rattle.repair.proofs.PlaceRows.{part-long}
-use Rattle.repair.proofs.PlacePowers.{weight-inverse}
+use Rattle.repair.specs.Steps.Columns.{column-errors}
+use Rattle.code.proofs.Part.{part-long}
+use Rattle.sums.proofs.PlacePowers.{weight-inverse}
 
 -- one more value
 cut-more : (k w : ℕ) (bs : List ℕ) → cut (suc k) w bs ≡ cut k w bs ++ (take w (drop (k * w) bs) ∷ [])
@@ -36,16 +37,16 @@ cut-more (suc k) w bs =
 
 column-errors-more :
     (n k w : ℕ) (ys : List ℕ) →
-    column-errors (suc n) k w ys ≡ column-errors n k w ys ++ (scaled (inverse (power 2 (120 * (254 - (k + n))))) (take w (drop (8 * n) ys)) ∷ [])
+    column-errors (suc n) k w ys ≡ column-errors n k w ys ++ (scaled (inverse (power 2 (first-exponent * (254 - (k + n))))) (take w (drop (row-width * n) ys)) ∷ [])
 unfolding column-errors
 column-errors-more zero k w ys =
-    ap (λ (i : ℕ). scaled (inverse (power 2 (120 * (254 - i)))) (take w ys) ∷ []) (let e : k ≡ k + 0 = omega arith in e)
+    ap (λ (i : ℕ). scaled (inverse (power 2 (first-exponent * (254 - i)))) (take w ys) ∷ []) (let e : k ≡ k + 0 = omega arith in e)
 column-errors-more (suc n) k w ys =
-    ap (_∷_ (scaled (inverse (power 2 (120 * (254 - k)))) (take w ys)))
-    (column-errors-more n (suc k) w (drop 8 ys)
-    ∙ ap₂ (λ (i : ℕ) (us : List ℕ). column-errors n (suc k) w (drop 8 ys) ++ (scaled (inverse (power 2 (120 * (254 - i)))) (take w us) ∷ []))
+    ap (_∷_ (scaled (inverse (power 2 (first-exponent * (254 - k)))) (take w ys)))
+    (column-errors-more n (suc k) w (drop row-width ys)
+    ∙ ap₂ (λ (i : ℕ) (us : List ℕ). column-errors n (suc k) w (drop row-width ys) ++ (scaled (inverse (power 2 (first-exponent * (254 - i)))) (take w us) ∷ []))
     (let e : suc k + n ≡ k + suc n = omega arith in e)
-    (drop-drop (8 * n) 8 ys ∙ ap (λ (i : ℕ). drop i ys) (let e : 8 + 8 * n ≡ 8 * suc n = omega arith in e)))
+    (drop-drop (row-width * n) row-width ys ∙ ap (λ (i : ℕ). drop i ys) (let e : row-width + row-width * n ≡ row-width * suc n = omega arith in e)))
 
 plus-values-more :
     (vs us : List (List ℕ)) (v u : List ℕ) → length vs ≡ length us → plus-values (vs ++ (v ∷ [])) (us ++ (u ∷ [])) ≡ plus-values vs us ++ (added v u ∷ [])
@@ -63,7 +64,7 @@ glued-more (x ∷ vs) v = ap (λ (bs : List ℕ). x ++ bs) (glued-more vs v) ∙
 pub column-errors-length : (n k w : ℕ) (ys : List ℕ) → length (column-errors n k w ys) ≡ n
 unfolding column-errors
 column-errors-length zero k w ys = refl
-column-errors-length (suc n) k w ys = ap suc (column-errors-length n (suc k) w (drop 8 ys))
+column-errors-length (suc n) k w ys = ap suc (column-errors-length n (suc k) w (drop row-width ys))
 
 -- the first columns of a vector with their errors added, as bytes
 unfoldable pub mended-front : (columns size : ℕ) → (vector weighted : List ℕ) → List ℕ
@@ -72,13 +73,13 @@ mended-front k w vs ys = glued (plus-values (cut k w vs) (column-errors k 0 w ys
 mended-front-more :
     (k w : ℕ) (vs ys : List ℕ) →
     mended-front (suc k) w vs ys
-    ≡ mended-front k w vs ys ++ added (take w (drop (k * w) vs)) (scaled (inverse (power 2 (120 * (254 - k)))) (take w (drop (8 * k) ys)))
+    ≡ mended-front k w vs ys ++ added (take w (drop (k * w) vs)) (scaled (inverse (power 2 (first-exponent * (254 - k)))) (take w (drop (row-width * k) ys)))
 unfolding mended-front
 mended-front-more k w vs ys =
     ap glued
     (ap₂ plus-values (cut-more k w vs)
     (column-errors-more k 0 w ys
-    ∙ ap (λ (i : ℕ). column-errors k 0 w ys ++ (scaled (inverse (power 2 (120 * (254 - i)))) (take w (drop (8 * k) ys)) ∷ []))
+    ∙ ap (λ (i : ℕ). column-errors k 0 w ys ++ (scaled (inverse (power 2 (first-exponent * (254 - i)))) (take w (drop (row-width * k) ys)) ∷ []))
     (let e : 0 + k ≡ k = omega arith in e))
     ∙ plus-values-more (cut k w vs) (column-errors k 0 w ys) _ _ (cut-length k w vs ∙ sym (column-errors-length k 0 w ys)))
     ∙ glued-more (plus-values (cut k w vs) (column-errors k 0 w ys)) _
@@ -95,8 +96,8 @@ value-added c w vs es now h b l m f =
 
 -- or copied, where it has none
 pub value-kept :
-    (c : ℕ) (vs es old now : List ℕ) → c < 256 → length vs ≡ length old → length old ≤ 8 → ((i : ℕ) → getD vs i 0 < 256) →
-    ((p : ℕ) → p < 8 → getD es p 0 ≡ 0) → Written 0 (length vs) (λ p. getD vs (0 + p) 0) old now →
+    (c : ℕ) (vs es old now : List ℕ) → c < 256 → length vs ≡ length old → length old ≤ row-width → ((i : ℕ) → getD vs i 0 < 256) →
+    ((p : ℕ) → p < row-width → getD es p 0 ≡ 0) → Written 0 (length vs) (λ p. getD vs (0 + p) 0) old now →
     Filled (length old) (length old) (λ p. plus (getD vs p 0) (times c (getD es p 0))) now
 value-kept c vs es old now h e l byte z w =
     record {
@@ -124,9 +125,9 @@ mended-long {k} {at} {w} {vs} {ys} {output} {now} m l =
 
 module _ (k at w c : ℕ) (vs ys output so-far now : List ℕ) (m : Mended-to k at w vs ys output so-far) (h : k < 254) where
   pub mended-more :
-      w ≤ 8 → at + w ≤ length vs → 8 * k + w ≤ length ys → at + w ≤ length output → c ≡ power 2 (120 + k * 120) → Bytes vs →
+      w ≤ row-width → at + w ≤ length vs → row-width * k + w ≤ length ys → at + w ≤ length output → c ≡ power 2 (first-exponent + k * first-exponent) → Bytes vs →
       Filled (length (take (at + w - at) (drop at so-far))) (length (take (at + w - at) (drop at so-far)))
-      (λ p. plus (getD (take (at + w - at) (drop at vs)) p 0) (times c (getD (take (8 * k + 8 - 8 * k) (drop (8 * k) ys)) p 0))) now →
+      (λ p. plus (getD (take (at + w - at) (drop at vs)) p 0) (times c (getD (take (row-width * k + row-width - row-width * k) (drop (row-width * k) ys)) p 0))) now →
       Mended-to (k + 1) (at + w) w vs ys output (take at so-far ++ (now ++ drop (at + w - at) (drop at so-far)))
   mended-more small a b d e byte f = record { place = here; long = next-long; bytes = joined }
     where
@@ -134,7 +135,7 @@ module _ (k at w c : ℕ) (vs ys output so-far now : List ℕ) (m : Mended-to k 
       value = take w (drop at vs)
 
       errors : List ℕ
-      errors = take w (drop (8 * k) ys)
+      errors = take w (drop (row-width * k) ys)
 
       front : List ℕ
       front = mended-front k w vs ys
@@ -152,7 +153,7 @@ module _ (k at w c : ℕ) (vs ys output so-far now : List ℕ) (m : Mended-to k 
       value-long = length-take-le w (drop at vs) (omega (arith, length-drop at vs))
 
       errors-long : length errors ≡ w
-      errors-long = length-take-le w (drop (8 * k) ys) (omega (arith, length-drop (8 * k) ys))
+      errors-long = length-take-le w (drop (row-width * k) ys) (omega (arith, length-drop (row-width * k) ys))
 
       own-long : length (take (at + w - at) (drop at so-far)) ≡ w
       own-long = part-long at w so-far (omega (arith, mended-long m (omega arith)))
@@ -165,7 +166,7 @@ module _ (k at w c : ℕ) (vs ys output so-far now : List ℕ) (m : Mended-to k 
             new = λ p l.
                 f .new p (rw own-long l)
                 ∙ ap₂ (λ (i e : ℕ). plus (getD (take i (drop at vs)) p 0) (times c e)) plain
-                (getD-take (8 * k + 8 - 8 * k) (drop (8 * k) ys) p 0 (omega arith) ∙ sym (getD-take w (drop (8 * k) ys) p 0 l));
+                (getD-take (row-width * k + row-width - row-width * k) (drop (row-width * k) ys) p 0 (omega arith) ∙ sym (getD-take w (drop (row-width * k) ys) p 0 l));
           })
 
       next : mended-front (k + 1) w vs ys ≡ front ++ now

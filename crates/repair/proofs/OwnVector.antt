@@ -18,7 +18,7 @@ use Rattle.code.proofs.Bytes.{Bytes, and-split}
 use Rattle.code.proofs.Polynomial.{length-added, bytes-added, getD-added}
 use Rattle.code.proofs.Vector.{Values, values-of, Vector, vector-of, vector-back, Checked, checked-of, plane-length, plane-bytes}
 use Rattle.repair.specs.Difference.{plus-values, zeros}
-use Rattle.repair.proofs.Linear.{plus-again, near-plus}
+use Rattle.locator.proofs.Linear.{plus-again, near-plus}
 
 -- sums of bytes with zeros, with themselves, and twice with the same bytes
 added-zeros : (n : ℕ) (vs : List ℕ) → length vs ≡ n → Bytes vs → added vs (replicate n 0) ≡ vs

@@ -9,17 +9,18 @@ use native.Mathlib.Decide.{decLt}
 use lib.ListN.{getD, List·getD-eq-default}
 use Rattle.field.specs.Field.{plus}
 use Rattle.field.proofs.Power.{power-lt}
+use Rattle.code.specs.Size.{row-width}
 use Rattle.code.specs.Settings.{Settings, settings, check-count}
-use Rattle.code.specs.Lanes.{lane}
+use Rattle.code.specs.Steps.Lanes.{in-row, lane}
 use Rattle.code.proofs.Lane.{lane-length, lane-at}
 use Rattle.code.proofs.Polynomial.{eval-ext}
-use Rattle.repair.specs.Locator.{massey}
-use Rattle.repair.specs.Errors.{error-sum, wrong-places}
-use Rattle.repair.specs.Rows.{Explained-as}
-use Rattle.repair.specs.Search.{Evaluated}
-use Rattle.repair.specs.Planes.{plane-sums, Locators, Locators-as, Longest, Weighted, Counted-as, Decoded-as}
-use Rattle.repair.proofs.Held.{massey-fitting}
-use Rattle.repair.proofs.ErrorSums.{explained-planes, unexplained-plane}
+use Rattle.locator.specs.Locator.{massey}
+use Rattle.locator.specs.Errors.{error-sum, wrong-places}
+use Rattle.sums.specs.Rows.{Explained-as}
+use Rattle.sums.specs.Places.{Evaluated}
+use Rattle.repair.specs.Steps.Planes.{plane-sums, Locators, Locators-as, Longest, Weighted, Counted-as, Decoded-as}
+use Rattle.locator.proofs.Held.{massey-fitting}
+use Rattle.sums.proofs.ErrorSums.{explained-planes, unexplained-plane}
 
 -- locators
 pub all-located :
@@ -43,14 +44,14 @@ pub all-evaluated :
 all-evaluated most planes count t n sums sizes rows values d m e =
     record { long = e .long; at = λ j p h l. e .at j p h l ∙ eval-ext (lane p (most + 1) rows) (lane p (t + 1) rows) _ (power-lt 2 _) (same p l) }
   where
-    past : (p i : ℕ) → p < 8 → most < i → Dec (p < planes) → getD rows (8 * i + p) 0 ≡ 0
+    past : (p i : ℕ) → p < row-width → most < i → Dec (p < planes) → getD rows (in-row i p) 0 ≡ 0
     past p i h l (yes a) =
         d .coefficient p i a
         ∙ List·getD-eq-default (massey (plane-sums p count sums) count .locator) 0
         (omega (arith, massey-fitting (plane-sums p count sums) count .locator, d .size p a, m .above p a))
     past p i h l (no a) = d .others p i (omega arith) h
 
-    same : (p : ℕ) → p < 8 → (i : ℕ) → getD (lane p (most + 1) rows) i 0 ≡ getD (lane p (t + 1) rows) i 0
+    same : (p : ℕ) → p < row-width → (i : ℕ) → getD (lane p (most + 1) rows) i 0 ≡ getD (lane p (t + 1) rows) i 0
     same p h i = go (decLt i (most + 1)) (decLt i (t + 1))
       where
         go : Dec (i < most + 1) → Dec (i < t + 1) → getD (lane p (most + 1) rows) i 0 ≡ getD (lane p (t + 1) rows) i 0
@@ -83,8 +84,8 @@ not-counted true planes s sums weighted e d = absurd (let z : _≡_ {A = ℕ} 0 
 
 -- and the sums that they explain or do not
 pub decoded :
-    (e : Bool) (planes : ℕ) (s : Settings) (sums weighted : List ℕ) → planes ≤ 8 →
-    ((i p : ℕ) → i < check-count s → planes ≤ p → p < 8 → getD sums (8 * i + p) 0 ≡ 0) → Counted planes s sums weighted → Explained-as e s sums weighted →
+    (e : Bool) (planes : ℕ) (s : Settings) (sums weighted : List ℕ) → planes ≤ row-width →
+    ((i p : ℕ) → i < check-count s → planes ≤ p → p < row-width → getD sums (in-row i p) 0 ≡ 0) → Counted planes s sums weighted → Explained-as e s sums weighted →
     Decoded-as e planes s sums weighted
 unfolding Decoded-as
 decoded true planes s sums weighted h z d x =

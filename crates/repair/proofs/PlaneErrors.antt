@@ -8,25 +8,27 @@ use native.Mathlib.Omega.{arith}
 use native.Mathlib.Decide.{decLt, ℕ-discrete}
 use lib.ListN.{length, getD, take, List·getD-eq-default}
 use lib.Seq.{getD-take, ext-getD, length-take-le}
+use Rattle.code.specs.Size.{most-bad, plane-room, row-width, place-rows}
 use Rattle.code.specs.Settings.{Settings, check-count}
-use Rattle.code.specs.Array.{Filled}
-use Rattle.code.specs.Lanes.{lane}
+use Rattle.code.specs.Steps.Array.{Filled}
+use Rattle.code.specs.Steps.Lanes.{in-row, lane}
 use Rattle.code.proofs.Lane.{lane-length, lane-at}
 use Rattle.code.proofs.Written.{all-zero, zero-at}
-use Rattle.repair.specs.Locator.{massey, value}
-use Rattle.repair.specs.Errors.{wrong-places, Located}
-use Rattle.repair.specs.Search.{Place-powers, Lane-written}
-use Rattle.repair.specs.Planes.{plane-sums, Locators, Weighted}
-use Rattle.repair.proofs.Held.{massey-fitting}
+use Rattle.locator.specs.Locator.{massey, value}
+use Rattle.locator.specs.Errors.{wrong-places, Located}
+use Rattle.sums.specs.Places.{Place-powers}
+use Rattle.locator.specs.Plane.{Lane-written}
+use Rattle.repair.specs.Steps.Planes.{plane-sums, Locators, Weighted}
+use Rattle.locator.proofs.Held.{massey-fitting}
 use Rattle.repair.proofs.Located.{lane-located, lane-kept}
 use Rattle.repair.proofs.PlaneLocators.{plane-taken}
-use Rattle.repair.proofs.PlaceRows.{lane-written-to}
-use Rattle.repair.proofs.Sound.{value-lt}
+use Rattle.locator.proofs.PlaneRows.{lane-written-to}
+use Rattle.locator.proofs.Sound.{value-lt}
 
 -- a plane's locator taken out of the rows again
 pub locator-taken :
     (p many count t : ℕ) (sums sizes rows plane : List ℕ) → p < many → t + 1 ≤ 11 → Locators many count t sums sizes rows →
-    Filled 32 (t + 1) (λ j. getD rows (8 * j + p) 0) plane → take (getD sizes p 0 + 1) plane ≡ massey (plane-sums p count sums) count .locator
+    Filled plane-room (t + 1) (λ j. getD rows (in-row j p) 0) plane → take (getD sizes p 0 + 1) plane ≡ massey (plane-sums p count sums) count .locator
 locator-taken p many count t sums sizes rows plane h k d f =
     ext-getD 0 (take (getD sizes p 0 + 1) plane) locator (length-take-le _ plane (omega (arith, f .long, d .small p h)) ∙ sym long)
     (λ j l.
@@ -42,7 +44,7 @@ locator-taken p many count t sums sizes rows plane h k d f =
 -- and as the rows hold it
 pub lane-locator :
     (p many count t : ℕ) (sums sizes rows plane : List ℕ) → p < many → t + 1 ≤ 11 → Locators many count t sums sizes rows →
-    Filled 32 (t + 1) (λ j. getD rows (8 * j + p) 0) plane → (i : ℕ) → getD (lane p (t + 1) rows) i 0 ≡ getD (take (getD sizes p 0 + 1) plane) i 0
+    Filled plane-room (t + 1) (λ j. getD rows (in-row j p) 0) plane → (i : ℕ) → getD (lane p (t + 1) rows) i 0 ≡ getD (take (getD sizes p 0 + 1) plane) i 0
 lane-locator p many count t sums sizes rows plane h k d f i =
     go (decLt i (t + 1)) ∙ ap (λ (ps : List ℕ). getD ps i 0) (sym (locator-taken p many count t sums sizes rows plane h k d f))
   where
@@ -56,17 +58,17 @@ lane-locator p many count t sums sizes rows plane h k d f i =
         ∙ sym (List·getD-eq-default locator 0 (omega (arith, massey-fitting (plane-sums p count sums) count .locator, d .size p h, d .small p h)))
 
 -- plane by plane
-pub weighted-none : (s : Settings) (sums weighted : List ℕ) → length weighted ≡ 416 → all-zero weighted ≡ true → Weighted 0 s sums weighted
+pub weighted-none : (s : Settings) (sums weighted : List ℕ) → length weighted ≡ place-rows → all-zero weighted ≡ true → Weighted 0 s sums weighted
 weighted-none s sums weighted e z =
     record {
       long = e;
       bytes = λ i. omega (arith, zero-at weighted z i);
       located = λ p h. absurd (omega arith);
-      others = λ j p h l. zero-at weighted z (8 * j + p);
+      others = λ j p h l. zero-at weighted z (in-row j p);
     }
 
 pub weighted-more :
-    (p : ℕ) (s : Settings) (sums places weighted now : List ℕ) → p < 8 → Place-powers 1 (s .n) (check-count s) places → Weighted p s sums weighted →
+    (p : ℕ) (s : Settings) (sums places weighted now : List ℕ) → p < row-width → Place-powers 1 (s .n) (check-count s) places → Weighted p s sums weighted →
     Lane-written p (s .n + check-count s)
     (λ j. value (plane-sums p (check-count s) sums) (massey (plane-sums p (check-count s) sums) (check-count s) .locator) (getD (take (s .n + check-count s) places) j 0))
     weighted now →
@@ -74,15 +76,15 @@ pub weighted-more :
 weighted-more p s sums places weighted now h q d w =
     record {
       long = w .long ∙ d .long;
-      bytes = λ i. byte i (decLt (i / 8) (s .n + check-count s)) (ℕ-discrete (i % 8) p);
+      bytes = λ i. byte i (decLt (i / row-width) (s .n + check-count s)) (ℕ-discrete (i % row-width) p);
       located = λ k l. located k l (ℕ-discrete k p);
-      others = λ j k l e. w .rest (8 * j + k) (λ i g f. omega arith) ∙ d .others j k (omega arith) e;
+      others = λ j k l e. w .rest (in-row j k) (λ i g f. omega arith) ∙ d .others j k (omega arith) e;
     }
   where
-    byte : (i : ℕ) → Dec (i / 8 < s .n + check-count s) → Dec (i % 8 ≡ p) → getD now i 0 < 256
+    byte : (i : ℕ) → Dec (i / row-width < s .n + check-count s) → Dec (i % row-width ≡ p) → getD now i 0 < 256
     byte i (yes a) (yes e) =
-        subst (λ (k : ℕ). getD now k 0 < 256) (let f : 8 * (i / 8) + p ≡ i = omega arith in f)
-        (subst (λ (v : ℕ). v < 256) (sym (w .new (i / 8) a)) (value-lt _ _ _))
+        subst (λ (k : ℕ). getD now k 0 < 256) (let f : in-row (i / row-width) p ≡ i = omega arith in f)
+        (subst (λ (v : ℕ). v < 256) (sym (w .new (i / row-width) a)) (value-lt _ _ _))
     byte i (no a) e = subst (λ (v : ℕ). v < 256) (sym (w .rest i (λ j g f. a (omega arith)))) (d .bytes i)
     byte i (yes a) (no e) = subst (λ (v : ℕ). v < 256) (sym (w .rest i (λ j g f. e (omega arith)))) (d .bytes i)
 
@@ -93,7 +95,7 @@ weighted-more p s sums places weighted now h q d w =
         rw (lane-kept p k (s .n + check-count s) (s .n + check-count s) _ weighted now h (omega arith) e w) (d .located k (omega arith))
 
 pub counted-more :
-    (p many t : ℕ) (f : ℕ → ℕ) (weighted now : List ℕ) → p < 8 → Lane-written p many f weighted now → wrong-places (lane p many now) ≤ t →
+    (p many t : ℕ) (f : ℕ → ℕ) (weighted now : List ℕ) → p < row-width → Lane-written p many f weighted now → wrong-places (lane p many now) ≤ t →
     ((k : ℕ) → k < p → wrong-places (lane k many weighted) ≤ t) → (k : ℕ) → k < p + 1 → wrong-places (lane k many now) ≤ t
 counted-more p many t f weighted now h w e d k l = go (ℕ-discrete k p)
   where
@@ -103,8 +105,8 @@ counted-more p many t f weighted now h w e d k l = go (ℕ-discrete k p)
 
 -- what a search of a plane writes, by the plane's own sums and locator
 pub written-by :
-    (p many t n : ℕ) (sums sizes rows plane locator places weighted now : List ℕ) → p < many → 1 ≤ t → t ≤ 10 → Locators many (2 * t) t sums sizes rows →
-    Filled 32 (2 * t) (λ j. getD sums (8 * j + p) 0) plane → Filled 32 (t + 1) (λ j. getD rows (8 * j + p) 0) locator →
+    (p many t n : ℕ) (sums sizes rows plane locator places weighted now : List ℕ) → p < many → 1 ≤ t → t ≤ most-bad → Locators many (2 * t) t sums sizes rows →
+    Filled plane-room (2 * t) (λ j. getD sums (in-row j p) 0) plane → Filled plane-room (t + 1) (λ j. getD rows (in-row j p) 0) locator →
     Lane-written p (length (take (n + 2 * t) places))
     (λ j. value (λ i. getD (take (2 * t) plane) i 0) (take (getD sizes p 0 + 1) locator) (getD (take (n + 2 * t) places) j 0)) weighted now →
     length (take (n + 2 * t) places) ≡ n + 2 * t →

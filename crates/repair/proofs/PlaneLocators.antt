@@ -3,38 +3,39 @@
 use mathlib.Core.Path.{_≡_, sym, _∙_, ap, subst}
 use mathlib.Core.Bool.{true, false}
 use mathlib.Core.List.{List}
-use Prim.Native.Nat.{ℕ, _+_, _*_, _≤_, _<_}
+use Prim.Native.Nat.{ℕ, _+_, _≤_, _<_}
 use native.Mathlib.Omega.{arith}
 use native.Mathlib.Decide.{decLt, ℕ-discrete}
 use lib.ListN.{length, getD, set, take, length-set, List·getD-eq-default}
 use lib.Seq.{getD-set-same, getD-set-other, getD-take, length-take-le}
-use Rattle.code.specs.Array.{Filled}
-use Rattle.code.specs.Lanes.{lane}
+use Rattle.code.specs.Size.{plane-room, row-width, locator-rows}
+use Rattle.code.specs.Steps.Array.{Filled}
+use Rattle.code.specs.Steps.Lanes.{in-row, lane}
 use Rattle.code.proofs.Lane.{lane-is}
 use Rattle.code.proofs.Written.{all-zero, zero-at}
-use Rattle.repair.specs.Locator.{massey}
-use Rattle.repair.specs.Held.{Stands}
-use Rattle.repair.specs.Search.{Lane-written}
-use Rattle.repair.specs.Planes.{plane-sums, Locators, Locators-as}
-use Rattle.repair.specs.declared.locator.Locator.{Locator}
-use Rattle.repair.proofs.Held.{found-locator}
+use Rattle.locator.specs.Locator.{massey}
+use Rattle.locator.specs.Held.{Stands}
+use Rattle.locator.specs.Plane.{Lane-written}
+use Rattle.repair.specs.Steps.Planes.{plane-sums, Locators, Locators-as}
+use Rattle.locator.specs.declared.berlekamp.Locator.{Locator}
+use Rattle.locator.proofs.Held.{found-locator}
 
 -- a plane taken out of rows, and lent as far as it goes
-pub plane-taken : (p many : ℕ) (rows plane : List ℕ) → many ≤ 32 → Filled 32 many (λ j. getD rows (8 * j + p) 0) plane → take many plane ≡ lane p many rows
+pub plane-taken : (p many : ℕ) (rows plane : List ℕ) → many ≤ plane-room → Filled plane-room many (λ j. getD rows (in-row j p) 0) plane → take many plane ≡ lane p many rows
 plane-taken p many rows plane h f =
     sym
     (lane-is p many rows (take many plane) (length-take-le many plane (omega (arith, f .long)))
     (λ j l. sym (getD-take many plane j 0 l ∙ f .new j l)))
 
 pub taken-locator :
-    (p count : ℕ) (sums plane : List ℕ) (r : Locator) → count ≤ 32 → Filled 32 count (λ j. getD sums (8 * j + p) 0) plane →
+    (p count : ℕ) (sums plane : List ℕ) (r : Locator) → count ≤ plane-room → Filled plane-room count (λ j. getD sums (in-row j p) 0) plane →
     Stands r (massey (λ i. getD (take count plane) i 0) count) → Stands r (massey (plane-sums p count sums) count)
 taken-locator p count sums plane r h f s =
     subst (λ (l : List ℕ). Stands r (massey (λ i. getD l i 0) count)) (plane-taken p count sums plane h f) s
 
 -- plane by plane
 pub locators-none :
-    (count t : ℕ) (sums sizes rows : List ℕ) → length sizes ≡ 8 → length rows ≡ 88 → all-zero rows ≡ true → Locators 0 count t sums sizes rows
+    (count t : ℕ) (sums sizes rows : List ℕ) → length sizes ≡ row-width → length rows ≡ locator-rows → all-zero rows ≡ true → Locators 0 count t sums sizes rows
 locators-none count t sums sizes rows e l z =
     record {
       many = e;
@@ -42,11 +43,11 @@ locators-none count t sums sizes rows e l z =
       size = λ p h. absurd (omega arith);
       small = λ p h. absurd (omega arith);
       coefficient = λ p m h. absurd (omega arith);
-      others = λ p m h k. zero-at rows z (8 * m + p);
+      others = λ p m h k. zero-at rows z (in-row m p);
     }
 
 pub locators-more :
-    (p count t : ℕ) (sums sizes rows now : List ℕ) (r : Locator) → p < 8 → count < 32 → r .size ≤ t → Stands r (massey (plane-sums p count sums) count) →
+    (p count t : ℕ) (sums sizes rows now : List ℕ) (r : Locator) → p < row-width → count < plane-room → r .size ≤ t → Stands r (massey (plane-sums p count sums) count) →
     Locators p count t sums sizes rows →
     Lane-written p (length (take (r .size + 1) (r .locator))) (λ j. getD (take (r .size + 1) (r .locator)) j 0) rows now →
     Locators (p + 1) count t sums (set sizes p (r .size)) now
@@ -57,7 +58,7 @@ locators-more p count t sums sizes rows now r h c k s d w =
       size = λ q l. sized q l (ℕ-discrete q p);
       small = λ q l. small q l (ℕ-discrete q p);
       coefficient = λ q m l. coefficient q m l (ℕ-discrete q p) (decLt m (length locator));
-      others = λ q m l e. w .rest (8 * m + q) (λ j g f. omega arith) ∙ d .others q m (omega arith) e;
+      others = λ q m l e. w .rest (in-row m q) (λ j g f. omega arith) ∙ d .others q m (omega arith) e;
     }
   where
     locator : List ℕ
@@ -76,12 +77,12 @@ locators-more p count t sums sizes rows now r h c k s d w =
     small q l (no e) = omega (arith, getD-set-other sizes p q (r .size) 0 e, d .small q (omega arith))
 
     coefficient :
-        (q m : ℕ) → q < p + 1 → Dec (q ≡ p) → Dec (m < length locator) → getD now (8 * m + q) 0 ≡ getD (massey (plane-sums q count sums) count .locator) m 0
-    coefficient q m l (no e) a = w .rest (8 * m + q) (λ j g f. e (omega arith)) ∙ d .coefficient q m (omega arith)
+        (q m : ℕ) → q < p + 1 → Dec (q ≡ p) → Dec (m < length locator) → getD now (in-row m q) 0 ≡ getD (massey (plane-sums q count sums) count .locator) m 0
+    coefficient q m l (no e) a = w .rest (in-row m q) (λ j g f. e (omega arith)) ∙ d .coefficient q m (omega arith)
     coefficient q m l (yes e) (yes a) = rw e (w .new m a ∙ ap (λ (ps : List ℕ). getD ps m 0) whole)
     coefficient q m l (yes e) (no a) =
         rw e
-        (w .rest (8 * m + p) (λ j g f. a (omega arith)) ∙ d .others p m (omega arith) h
+        (w .rest (in-row m p) (λ j g f. a (omega arith)) ∙ d .others p m (omega arith) h
         ∙ sym (List·getD-eq-default (massey (plane-sums p count sums) count .locator) 0 (omega (arith, ap length whole))))
 
 pub locators-found : {p size count t : ℕ} {sums sizes rows : List ℕ} → p ≡ size → Locators p count t sums sizes rows → Locators-as true size count t sums sizes rows

@@ -1,9 +1,6 @@
 // Repair of a vector by check values: in each byte plane the one codeword within t places, or none.
-mod locator;
+mod columns;
 mod planes;
-mod search;
-mod single;
-mod sums;
 
 ghost use mathlib.Core.Path.{_≡_};
 ghost use Prim.Native.Nat.{_*_, _≤_};
@@ -11,6 +8,7 @@ ghost use lib.ListN.{length};
 ghost use Rattle.code.specs.Settings.{settings, settings-refusal};
 ghost use Rattle.code.specs.Entry.{values-in};
 ghost use Rattle.repair.specs.Entry.{repair-refusal, Repair-says, Repair-by-says, Done-by};
+use code::sizes::CHECKS_ROOM;
 
 // The answer where some plane has no codeword near.
 const NONE: u32 = 256;
@@ -24,7 +22,7 @@ pub fn repair(n: u32, t: u32, w: u32, vector: &[u8], checks: &[u8], output: &mut
     if refusal != 0 {
         return refusal;
     }
-    let mut own = [0u8; 160];
+    let mut own = [0u8; CHECKS_ROOM];
     let end = checks.len();
     code::check_values(n, t, w, vector, &mut own);
     by_difference(
@@ -104,19 +102,19 @@ fn by_difference(
     ensures { λ r. ⌜ Done-by (settings n t w) (values-in (settings n t w) n (now (vector .entry))) (values-in (settings n t w) (2 * t) (now (own .entry))) (values-in (settings n t w) (2 * t) (now (checks .entry))) r (now (output .entry)) (now (output .exit)) ⌝ }
 {
     let count = 2 * t;
-    let difference = sums::difference(own, checks, count, w);
-    if sums::is_zero(&difference) {
+    let difference = sums::rows::difference(own, checks, count, w);
+    if sums::rows::is_zero(&difference) {
         code::planes::copy_value(output, 0, vector, 0, vector.len());
         return 0;
     }
     let powers = field::powers();
     let logarithms = field::logarithms();
-    let sums = sums::syndromes(&powers, &logarithms, &difference, count);
+    let sums = sums::rows::syndromes(&powers, &logarithms, &difference, count);
     let errors = planes::decode(&powers, &logarithms, &sums, n, t, w);
     if !errors.found {
         return NONE;
     }
     let weighted = errors.weighted;
-    search::apply_errors(&powers, &logarithms, vector, &weighted, n, w, output);
+    columns::apply_errors(&powers, &logarithms, vector, &weighted, n, w, output);
     0
 }

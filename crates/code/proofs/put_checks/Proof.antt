@@ -5,9 +5,10 @@ use Prim.Native.Nat.{ℕ, _+_, _*_, _≤_}
 use native.Mathlib.Omega.{arith}
 use lib.ListN.{length, take, drop, length-append, length-drop}
 use lib.Seq.{length-take-le}
+use Rattle.code.specs.Size.{most-columns, row-width, place-rows}
 use Rattle.code.specs.Settings.{settings}
 use Rattle.code.proofs.Bytes.{bytes-every}
-use Rattle.code.proofs.Word.{sizes}
+use Rattle.code.proofs.Word.{sizes, value-in-row}
 use Rattle.code.proofs.Factors.{feedback-filled}
 use Rattle.code.proofs.Encoding.{checks-put}
 use borrow.Author.Needs.{needs}
@@ -15,12 +16,15 @@ use Rattle.code.proofs.put_checks.Statement.{statement}
 use Rattle.code.proofs.put_checks.Tie as tie
 
 -- the sizes of settings that are not refused
-bounds : (c : tie.Start) → (c .args .n ≤ 32) × (3 * c .args .t + 1 ≤ c .args .n) × (c .args .w ≤ 8)
+bounds : (c : tie.Start) → (c .args .n ≤ most-columns) × (3 * c .args .t + 1 ≤ c .args .n) × (c .args .w ≤ row-width)
 unfolding settings
-bounds c = let z = sizes (settings (c .args .n) (c .args .t) (c .args .w)) (c .pre .0) in (z .few-columns, z .few-bad, z .few-bytes)
+bounds c =
+    let s = settings (c .args .n) (c .args .t) (c .args .w) in
+    let z = sizes s (c .pre .0) in
+    (z .few-columns, z .few-bad, value-in-row s z)
 
 -- the rows with their divided part back
-whole : (end : ℕ) (loaded divided : List ℕ) → end ≤ 416 → length loaded ≡ 416 → length divided ≡ length (take end loaded) → 416 ≡ length (divided ++ drop end loaded)
+whole : (end : ℕ) (loaded divided : List ℕ) → end ≤ place-rows → length loaded ≡ place-rows → length divided ≡ length (take end loaded) → place-rows ≡ length (divided ++ drop end loaded)
 whole end loaded divided h e l =
     omega (arith, length-append divided (drop end loaded), length-drop end loaded, length-take-le end loaded (omega arith))
 
@@ -67,21 +71,21 @@ divide-requires : tie.Need-divide-requires
 divide-requires c κs =
     let z = bounds (c .before .before .before .before .before .before .before .before .before .before .before .before .before .before .before .before .before) in
     let hs = length-take-le (2 * c .before .before .before .before .before .before .before .before .before .before .before .before .before .before .before .before .before .args .t) (c .before .before .before .feedback .result) (omega (arith, c .before .before .before .feedback .ensures .long)) in
-    let part = length-take-le (8 * (c .before .before .before .before .before .before .before .before .before .before .before .before .before .before .before .before .before .args .n + 2 * c .before .before .before .before .before .before .before .before .before .before .before .before .before .before .before .before .before .args .t)) (c .before .before .load .result) (omega (arith, c .before .before .load .ensures .long)) in
+    let part = length-take-le (row-width * (c .before .before .before .before .before .before .before .before .before .before .before .before .before .before .before .before .before .args .n + 2 * c .before .before .before .before .before .before .before .before .before .before .before .before .before .before .before .before .before .args .t)) (c .before .before .load .result) (omega (arith, c .before .before .load .ensures .long)) in
     (z .0, omega arith, omega arith)
 
 slice-aggregate-store : tie.Need-slice-aggregate-store
 slice-aggregate-store c =
     let f = c .before .before .before .before .before .before .before .before .before .before .before .before .before .before .before .before .before .before .before .before in
     let z = bounds f in
-    whole (8 * (f .args .n + 2 * f .args .t)) (c .before .before .before .before .before .load .result) (c .before .before .divide .last .1 .0) (omega arith) (c .before .before .before .before .before .load .ensures .long) (c .before .before .divide .ensures .long)
+    whole (row-width * (f .args .n + 2 * f .args .t)) (c .before .before .before .before .before .load .result) (c .before .before .divide .last .1 .0) (omega arith) (c .before .before .before .before .before .load .ensures .long) (c .before .before .divide .ensures .long)
 
 store-requires : tie.Need-store-requires
 store-requires c κs =
     let f = c .before .before .before .before .before .before .before .before .before .before .before .before .before .before .before .before .before .before .before .before .before in
     let z = bounds f in
-    let long = whole (8 * (f .args .n + 2 * f .args .t)) (c .before .before .before .before .before .before .load .result) (c .before .before .before .divide .last .1 .0) (omega arith) (c .before .before .before .before .before .before .load .ensures .long) (c .before .before .before .divide .ensures .long) in
-    (z .0, omega arith, z .2, subst (λ (k : ℕ). 8 * (f .args .n + 2 * f .args .t) ≤ k) long (omega arith), f .pre .2)
+    let long = whole (row-width * (f .args .n + 2 * f .args .t)) (c .before .before .before .before .before .before .load .result) (c .before .before .before .divide .last .1 .0) (omega arith) (c .before .before .before .before .before .before .load .ensures .long) (c .before .before .before .divide .ensures .long) in
+    (z .0, omega arith, z .2, subst (λ (k : ℕ). row-width * (f .args .n + 2 * f .args .t) ≤ k) long (omega arith), f .pre .2)
 
 same-length : tie.Need-same-length
 same-length c = search needs

@@ -3,21 +3,25 @@ use mathlib.Core.Path.{sym}
 use Prim.Native.Nat.{_+_, _*_, _≤_}
 use native.Mathlib.Omega.{arith}
 use borrow.Author.Tests.{not-true, not-false}
+use Rattle.code.specs.Size.{most-columns, row-width}
 use Rattle.code.specs.Settings.{settings, value-size}
 use Rattle.code.specs.Entry.{values-in}
 use Rattle.code.proofs.Bytes.{Bytes, bytes-every}
-use Rattle.code.proofs.Word.{sizes}
+use Rattle.code.proofs.Word.{sizes, value-in-row}
 use Rattle.repair.specs.Entry.{none-found}
 use Rattle.repair.proofs.Answer.{some-bad, decoded-long, copied, sums-spare, answer-none, answer-found, answer-same}
-use Rattle.repair.proofs.Zeros.{zeros-of}
+use Rattle.sums.proofs.Zeros.{zeros-of}
 use borrow.Author.Needs.{needs}
 use Rattle.repair.proofs.by_difference.Statement.{statement}
 use Rattle.repair.proofs.by_difference.Tie as tie
 
 -- the sizes of settings that are not refused
-bounds : (c : tie.Start) → let a = c .args in (a .n ≤ 32) × (3 * a .t + 1 ≤ a .n) × (a .w ≤ 8)
+bounds : (c : tie.Start) → let a = c .args in (a .n ≤ most-columns) × (3 * a .t + 1 ≤ a .n) × (a .w ≤ row-width)
 unfolding settings
-bounds c = let z = sizes (settings (c .args .n) (c .args .t) (c .args .w)) (c .pre .0) in (z .few-columns, z .few-bad, z .few-bytes)
+bounds c =
+    let s = settings (c .args .n) (c .args .t) (c .args .w) in
+    let z = sizes s (c .pre .0) in
+    (z .few-columns, z .few-bad, value-in-row s z)
 
 -- what is known as soon as the difference is: the arguments, and that what they lend is bytes
 abbrev start : tie.After-difference → tie.Start

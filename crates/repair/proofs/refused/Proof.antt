@@ -4,6 +4,7 @@ use mathlib.Core.Logic.{inl, inr}
 use Prim.Native.Nat.{_+_, _*_, _≤_}
 use native.Mathlib.Omega.{arith}
 use borrow.Author.Tests.{ne-eqb, lt-ltb}
+use Rattle.code.specs.Size.{most-columns, value-room}
 use Rattle.code.specs.Settings.{settings, settings-refusal}
 use Rattle.code.proofs.Word.{sizes}
 use Rattle.code.proofs.Cut.{values-fit}
@@ -16,7 +17,7 @@ use Rattle.repair.proofs.refused.Tie as tie
 allowed : (c : tie.Else1) → let a = c .before .before .args in settings-refusal (settings (a .n) (a .t) (a .w)) ≡ 0
 allowed c = sym (c .before .settings-refusal .ensures) ∙ c .if1 .left
 
-bounds : (c : tie.Else1) → let a = c .before .before .args in (a .n ≤ 32) × (3 * a .t + 1 ≤ a .n) × (a .w ≤ 8)
+bounds : (c : tie.Else1) → let a = c .before .before .args in (a .n ≤ most-columns) × (3 * a .t + 1 ≤ a .n) × (a .w ≤ value-room)
 unfolding settings
 bounds c = let z = sizes _ (allowed c) in (z .few-columns, z .few-bad, z .few-bytes)
 

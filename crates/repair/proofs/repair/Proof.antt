@@ -6,6 +6,7 @@ use Prim.Native.Nat.{ℕ, _*_, _≤_}
 use native.Mathlib.Omega.{arith}
 use lib.ListN.{length, take}
 use lib.Seq.{length-take-le}
+use Rattle.code.specs.Size.{checks-room}
 use Rattle.code.specs.Settings.{settings, settings-refusal}
 use Rattle.code.specs.Vector.{has-checks}
 use Rattle.code.specs.Entry.{values-in}
@@ -24,7 +25,7 @@ use Rattle.repair.proofs.repair.Tie as tie
 taken-up : (c : tie.Else1) → let a = c .before .before .before .before .before .args in Accepted (a .n) (a .t) (a .w) (length (a .vector .now)) (length (a .checks .now)) (length (a .output .now))
 taken-up c = accepted _ _ _ _ _ _ (sym (c .before .refused .ensures) ∙ c .if1 .left)
 
-room : (n t w : ℕ) → settings-refusal (settings n t w) ≡ 0 → 2 * t * w ≤ 160
+room : (n t w : ℕ) → settings-refusal (settings n t w) ≡ 0 → 2 * t * w ≤ checks-room
 unfolding settings
 room n t w e = let z = sizes (settings n t w) e in check-room t w (omega (arith, z .few-columns, z .few-bad)) (z .few-bytes)
 

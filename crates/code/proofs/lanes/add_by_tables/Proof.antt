@@ -4,7 +4,7 @@ use Prim.Native.Nat.{_-_, _≤_}
 use native.Mathlib.Omega.{arith}
 use lib.ListN.{length}
 use borrow.Author.Needs.{needs}
-use Rattle.code.specs.Lanes.{Products-added}
+use Rattle.code.specs.Steps.Lanes.{Products-added}
 use Rattle.code.proofs.Multiples.{doubled-byte, products-none, products-more, products-to}
 use Rattle.code.proofs.lanes.add_by_tables.Statement.{statement}
 use Rattle.code.proofs.lanes.add_by_tables.Tie as tie

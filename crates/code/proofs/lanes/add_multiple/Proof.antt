@@ -1,20 +1,22 @@
 -- `add_multiple` meets its contract: each byte is read before it is written. Assumes nothing.
 use mathlib.Core.Path.{_≡_, refl, _∙_, ap₂}
-use Prim.Native.Nat.{_+_, _*_, _-_, _≤_}
+use Prim.Native.Nat.{_+_, _-_, _≤_}
 use native.Mathlib.Omega.{arith}
 use lib.ListN.{getD}
 use borrow.Author.Needs.{needs}
 use Rattle.field.specs.Field.{plus}
-use Rattle.code.specs.Array.{Written}
+use Rattle.code.specs.Steps.Lanes.{in-row}
+use Rattle.code.specs.Size.{row-width}
+use Rattle.code.specs.Steps.Array.{Written}
 use Rattle.code.proofs.Written.{written-none, written-more, written-to}
 use Rattle.code.proofs.lanes.add_multiple.Statement.{statement}
 use Rattle.code.proofs.lanes.add_multiple.Tie as tie
 
 abbrev Inv-loop : tie.InvT-loop
-Inv-loop rows₀ at multiples k p₀ rows p = (p ≤ 8) × Written at p (λ q. plus (getD rows₀ (at + q) 0) (getD multiples (8 * k + q) 0)) rows₀ rows
+Inv-loop rows₀ at multiples k p₀ rows p = (p ≤ row-width) × Written at p (λ q. plus (getD rows₀ (at + q) 0) (getD multiples (in-row k q) 0)) rows₀ rows
 
 abbrev μ-loop : tie.MeasureT-loop
-μ-loop rows₀ at multiples k p₀ rows p = 8 - p
+μ-loop rows₀ at multiples k p₀ rows p = row-width - p
 
 loop-holds : tie.Need-loop-holds Inv-loop μ-loop
 loop-holds c = (omega arith, written-none _ _ _)
@@ -59,7 +61,7 @@ same-length : tie.Need-same-length Inv-loop μ-loop
 same-length c = omega arith
 
 returns : tie.Need-returns Inv-loop μ-loop
-returns c = written-to (let e : c .before .loop .p ≡ 8 = omega arith in e) (c .before .loop .inv .1)
+returns c = written-to (let e : c .before .loop .p ≡ row-width = omega arith in e) (c .before .loop .inv .1)
 
 pub add-multiple-spec : {M : Type 1} → statement M
 add-multiple-spec =

@@ -5,16 +5,18 @@ use native.Mathlib.Omega.{arith}
 use lib.ListN.{getD}
 use borrow.Author.Needs.{needs}
 use Rattle.field.specs.Field.{plus}
-use Rattle.code.specs.Array.{Written}
+use Rattle.code.specs.Steps.Lanes.{in-row}
+use Rattle.code.specs.Size.{row-width}
+use Rattle.code.specs.Steps.Array.{Written}
 use Rattle.code.proofs.Written.{written-none, written-more, written-to}
 use Rattle.code.proofs.lanes.add_row.Statement.{statement}
 use Rattle.code.proofs.lanes.add_row.Tie as tie
 
 abbrev Inv-loop : tie.InvT-loop
-Inv-loop rows₀ w k p₀ rows p = (p ≤ 8) × Written (8 * (w + k)) p (λ q. plus (getD rows₀ (8 * w + q) 0) (getD rows₀ (8 * k + q) 0)) rows₀ rows
+Inv-loop rows₀ w k p₀ rows p = (p ≤ row-width) × Written (row-width * (w + k)) p (λ q. plus (getD rows₀ (in-row w q) 0) (getD rows₀ (in-row k q) 0)) rows₀ rows
 
 abbrev μ-loop : tie.MeasureT-loop
-μ-loop rows₀ w k p₀ rows p = 8 - p
+μ-loop rows₀ w k p₀ rows p = row-width - p
 
 loop-holds : tie.Need-loop-holds Inv-loop μ-loop
 loop-holds c = (omega arith, written-none _ _ _)
@@ -65,7 +67,7 @@ loop-again c =
     (omega arith, written-more _ _ _ _ _ _ w (omega arith) (c .sum .ensures ∙ ap₂ plus (w .before _ (omega arith)) (w .before _ (omega arith))))
 
 returns : tie.Need-returns Inv-loop μ-loop
-returns c = written-to (let e : c .before .loop .p ≡ 8 = omega arith in e) (c .before .loop .inv .1)
+returns c = written-to (let e : c .before .loop .p ≡ row-width = omega arith in e) (c .before .loop .inv .1)
 
 pub add-row-spec : {M : Type 1} → statement M
 add-row-spec =

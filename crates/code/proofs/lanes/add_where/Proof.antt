@@ -1,7 +1,7 @@
 -- `add_where` meets its contract: a bit that is not set adds 0. Assumes nothing.
-use Prim.Native.Nat.{_+_, _*_}
 use native.Mathlib.Omega.{arith}
 use lib.ListN.{getD}
+use Rattle.code.specs.Steps.Lanes.{in-row}
 use Rattle.code.proofs.Doublings.{added-not, added-once}
 use borrow.Author.Needs.{needs}
 use Rattle.code.proofs.lanes.add_where.Statement.{statement}
@@ -19,7 +19,7 @@ same-length c = search needs
 returns-2 : tie.Need-returns-2
 returns-2 c =
     let a = c .before .before .before .before .before .before .args in
-    added-once (a .at) (a .bit) (λ p. getD (a .doublings .now) (8 * a .k + p) 0) _ _ (omega arith) (c .before .before .add-multiple .ensures)
+    added-once (a .at) (a .bit) (λ p. getD (a .doublings .now) (in-row (a .k) p) 0) _ _ (omega arith) (c .before .before .add-multiple .ensures)
 
 pub add-where-spec : {M : Type 1} → statement M
 add-where-spec = tie.close (tie.spec returns add-multiple-requires same-length returns-2)

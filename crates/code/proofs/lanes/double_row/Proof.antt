@@ -1,20 +1,22 @@
 -- `double_row` meets its contract: the row read lies below the row written. Assumes nothing.
 use mathlib.Core.Path.{_≡_, _∙_, ap}
-use Prim.Native.Nat.{_+_, _*_, _-_, _≤_}
+use Prim.Native.Nat.{_*_, _-_, _≤_}
 use native.Mathlib.Omega.{arith}
 use lib.ListN.{getD}
 use borrow.Author.Needs.{needs}
 use Rattle.field.specs.Field.{doubled}
-use Rattle.code.specs.Array.{Written}
+use Rattle.code.specs.Steps.Lanes.{in-row}
+use Rattle.code.specs.Size.{row-width}
+use Rattle.code.specs.Steps.Array.{Written}
 use Rattle.code.proofs.Written.{written-none, written-more, written-to}
 use Rattle.code.proofs.lanes.double_row.Statement.{statement}
 use Rattle.code.proofs.lanes.double_row.Tie as tie
 
 abbrev Inv-loop : tie.InvT-loop
-Inv-loop rows₀ j to p₀ rows p = (p ≤ 8) × Written (8 * to) p (λ q. doubled (getD rows₀ (8 * j + q) 0)) rows₀ rows
+Inv-loop rows₀ j to p₀ rows p = (p ≤ row-width) × Written (row-width * to) p (λ q. doubled (getD rows₀ (in-row j q) 0)) rows₀ rows
 
 abbrev μ-loop : tie.MeasureT-loop
-μ-loop rows₀ j to p₀ rows p = 8 - p
+μ-loop rows₀ j to p₀ rows p = row-width - p
 
 loop-holds : tie.Need-loop-holds Inv-loop μ-loop
 loop-holds c = (omega arith, written-none _ _ _)
@@ -52,7 +54,7 @@ loop-again c =
     (omega arith, written-more _ _ _ _ _ _ w (omega arith) (c .double .ensures ∙ ap doubled (w .before _ (omega arith))))
 
 returns : tie.Need-returns Inv-loop μ-loop
-returns c = written-to (let e : c .before .loop .p ≡ 8 = omega arith in e) (c .before .loop .inv .1)
+returns c = written-to (let e : c .before .loop .p ≡ row-width = omega arith in e) (c .before .loop .inv .1)
 
 pub double-row-spec : {M : Type 1} → statement M
 double-row-spec =

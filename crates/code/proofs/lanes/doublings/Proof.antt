@@ -4,7 +4,7 @@ use Prim.Native.Nat.{_-_, _≤_}
 use native.Mathlib.Omega.{arith}
 use lib.ListN.{getD}
 use borrow.Author.Needs.{needs}
-use Rattle.code.specs.Lanes.{Doublings}
+use Rattle.code.specs.Steps.Lanes.{Doublings}
 use Rattle.code.proofs.Doublings.{doublings-one, doublings-more, doublings-to}
 use Rattle.code.proofs.lanes.doublings.Statement.{statement}
 use Rattle.code.proofs.lanes.doublings.Tie as tie

@@ -1,19 +1,21 @@
 -- `sixteenth_rows` meets its contract: zeros, and twice the eighth multiple after them. Assumes nothing.
 use mathlib.Core.Path.{_≡_, refl}
-use Prim.Native.Nat.{_+_, _-_, _≤_}
+use Prim.Native.Nat.{_-_, _≤_}
 use native.Mathlib.Omega.{arith}
 use lib.ListN.{getD}
 use borrow.Author.Needs.{needs}
 use Rattle.field.specs.Field.{doubled}
+use Rattle.code.specs.Steps.Lanes.{in-row}
+use Rattle.code.specs.Size.{row-width}
 use Rattle.code.proofs.Multiples.{First-bytes, first-none, first-more, first-whole, doubled-byte}
 use Rattle.code.proofs.lanes.sixteenth_rows.Statement.{statement}
 use Rattle.code.proofs.lanes.sixteenth_rows.Tie as tie
 
 abbrev Inv-loop : tie.InvT-loop
-Inv-loop low rows₀ p₀ rows p = (p ≤ 8) × First-bytes p (λ q. doubled (getD low (64 + q) 0)) rows
+Inv-loop low rows₀ p₀ rows p = (p ≤ row-width) × First-bytes p (λ q. doubled (getD low (in-row 8 q) 0)) rows
 
 abbrev μ-loop : tie.MeasureT-loop
-μ-loop low rows₀ p₀ rows p = 8 - p
+μ-loop low rows₀ p₀ rows p = row-width - p
 
 loop-holds : tie.Need-loop-holds Inv-loop μ-loop
 loop-holds c = (omega arith, first-none _ _ refl refl)
@@ -43,7 +45,7 @@ loop-again : tie.Need-loop-again Inv-loop μ-loop
 loop-again c = (omega arith, first-more _ _ _ _ (omega arith) (c .double .ensures) (doubled-byte _) (c .before .before .before .loop .inv .1))
 
 returns : tie.Need-returns Inv-loop μ-loop
-returns c = first-whole _ _ _ (let e : c .before .loop .p ≡ 8 = omega arith in e) (c .before .loop .inv .1)
+returns c = first-whole _ _ _ (let e : c .before .loop .p ≡ row-width = omega arith in e) (c .before .loop .inv .1)
 
 pub sixteenth-rows-spec : {M : Type 1} → statement M
 sixteenth-rows-spec =

@@ -1,9 +1,10 @@
--- `copy_value` meets its contract: eight bytes at once, or byte by byte. Assumes nothing.
+-- `copy_value` meets its contract: the most bytes at once, or byte by byte. Assumes nothing.
 use mathlib.Core.Path.{_≡_, refl}
 use Prim.Native.Nat.{_+_, _-_, _≤_}
 use native.Mathlib.Omega.{arith}
 use lib.ListN.{getD}
-use Rattle.code.specs.Array.{Written}
+use Rattle.code.specs.Size.{value-room}
+use Rattle.code.specs.Steps.Array.{Written}
 use Rattle.code.proofs.Written.{written-none, written-more, written-to}
 use Rattle.code.proofs.planes.copy_value.Statement.{statement}
 use Rattle.code.proofs.planes.copy_value.Tie as tie
@@ -14,14 +15,14 @@ Inv-loop to₀ at from start size p₀ to p = (p ≤ size) × Written at p (λ q
 abbrev μ-loop : tie.MeasureT-loop
 μ-loop to₀ at from start size p₀ to p = size - p
 
-copy-row-requires : tie.Need-copy-row-requires Inv-loop μ-loop
-copy-row-requires c κs = omega arith
+copy-full-requires : tie.Need-copy-full-requires Inv-loop μ-loop
+copy-full-requires c κs = omega arith
 
 same-length : tie.Need-same-length Inv-loop μ-loop
-same-length c = c .before .before .copy-row .ensures .long
+same-length c = c .before .before .copy-full .ensures .long
 
 returns : tie.Need-returns Inv-loop μ-loop
-returns c = written-to (let e : 8 ≡ _ = omega arith in e) (c .before .before .copy-row .ensures)
+returns c = written-to (let e : value-room ≡ _ = omega arith in e) (c .before .before .copy-full .ensures)
 
 loop-holds : tie.Need-loop-holds Inv-loop μ-loop
 loop-holds c = (omega arith, written-none _ _ _)
@@ -59,7 +60,7 @@ copy-value-spec =
     (tie.spec
     Inv-loop
     μ-loop
-    copy-row-requires
+    copy-full-requires
     same-length
     returns
     loop-holds

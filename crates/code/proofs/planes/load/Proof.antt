@@ -2,8 +2,8 @@
 use mathlib.Core.Path.{_≡_, refl}
 use Prim.Native.Nat.{_-_, _≤_}
 use native.Mathlib.Omega.{arith}
-use Rattle.code.specs.Lanes.{Loaded}
-use Rattle.code.proofs.Cut.{values-fit, start-fits, value-ends}
+use Rattle.code.specs.Steps.Lanes.{Loaded}
+use Rattle.code.proofs.Cut.{start-fits, value-ends}
 use Rattle.code.proofs.Loading.{loaded-none, loaded-more, loaded-to}
 use Rattle.code.proofs.planes.load.Statement.{statement}
 use Rattle.code.proofs.planes.load.Tie as tie
@@ -30,7 +30,7 @@ mul-copy-value : tie.Need-mul-copy-value Inv-loop μ-loop
 mul-copy-value c = omega arith
 
 mul-copy-value-2 : tie.Need-mul-copy-value-2 Inv-loop μ-loop
-mul-copy-value-2 c = let a = c .before .before .before .before .args in start-fits _ (a .n) (a .size) (omega arith) (values-fit (a .n) (a .size) (omega arith) (omega arith))
+mul-copy-value-2 c = let a = c .before .before .before .before .args in start-fits _ (a .n) (a .size) (omega arith) (omega arith)
 
 copy-value-requires : tie.Need-copy-value-requires Inv-loop μ-loop
 copy-value-requires c κs =

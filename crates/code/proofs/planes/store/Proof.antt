@@ -2,8 +2,8 @@
 use mathlib.Core.Path.{_≡_}
 use Prim.Native.Nat.{_-_, _≤_}
 use native.Mathlib.Omega.{arith}
-use Rattle.code.specs.Lanes.{Stored}
-use Rattle.code.proofs.Cut.{value-fits, values-fit}
+use Rattle.code.specs.Steps.Lanes.{Stored}
+use Rattle.code.proofs.Cut.{value-fits}
 use Rattle.code.proofs.Loading.{stored-none, stored-more, stored-to}
 use Rattle.code.proofs.planes.store.Statement.{statement}
 use Rattle.code.proofs.planes.store.Tie as tie
@@ -20,7 +20,7 @@ loop-holds c = (omega arith, stored-none _ _ _ _ _)
 mul-copy-value : tie.Need-mul-copy-value Inv-loop μ-loop
 mul-copy-value c =
     let a = c .before .before .before .before .before .args in
-    omega (arith, value-fits (c .before .before .loop .c) (a .count) (a .size) (omega arith), values-fit (a .count) (a .size) (omega arith) (omega arith))
+    omega (arith, value-fits (c .before .before .loop .c) (a .count) (a .size) (omega arith))
 
 add-copy-value : tie.Need-add-copy-value Inv-loop μ-loop
 add-copy-value c = omega arith

@@ -3,7 +3,8 @@ use mathlib.Core.Path.{_≡_, refl}
 use Prim.Native.Nat.{_+_, _*_, _-_, _≤_}
 use native.Mathlib.Omega.{arith}
 use lib.ListN.{length}
-use Rattle.code.specs.Lanes.{Divided}
+use Rattle.code.specs.Size.{row-width}
+use Rattle.code.specs.Steps.Lanes.{Divided}
 use Rattle.code.proofs.Bytes.{bytes-every}
 use Rattle.code.proofs.Division.{divided-none, divided-part, divided-to}
 use Rattle.code.proofs.register.divide.Statement.{statement}
@@ -62,7 +63,7 @@ loop-again c =
     let s = l .loop .s in (
       omega arith,
       refl,
-      divided-part s (f .before .args .n + length hs) (8 * s + 8 + 8 * length hs - (8 * s + 8)) hs _ _ (l .loop .rows) _ (omega arith) (omega arith)
+      divided-part s (f .before .args .n + length hs) (row-width * s + row-width + row-width * length hs - (row-width * s + row-width)) hs _ _ (l .loop .rows) _ (omega arith) (omega arith)
           (omega (arith, l .loop .inv .2 .long)) (bytes-every hs (λ i. f .shared-slice-known .given i .fits)) (l .loop .inv .2)
           (λ i. c .slice-known2 .given i .fits) (c .before .before .before .before .before .row .ensures) (c .before .before .add-products .ensures),
     )

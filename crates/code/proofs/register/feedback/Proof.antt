@@ -5,14 +5,15 @@ use native.Mathlib.Omega.{arith}
 use lib.ListN.{getD}
 use borrow.Author.Needs.{needs}
 use Rattle.field.specs.Field.{times, inverse}
-use Rattle.code.specs.Array.{Filled}
+use Rattle.code.specs.Size.{most-checks}
+use Rattle.code.specs.Steps.Array.{Filled}
 use Rattle.code.proofs.Written.{filled-none, filled-more, filled-to}
 use Rattle.code.proofs.register.feedback.Statement.{statement}
 use Rattle.code.proofs.register.feedback.Tie as tie
 
 abbrev Inv-loop : tie.InvT-loop
 Inv-loop powers logarithms generator many lowest rest₀ j₀ rest j =
-    (j ≤ many) × Filled 20 j (λ k. times (getD generator (k + 1) 0) (inverse (getD generator 0 0))) rest
+    (j ≤ many) × Filled most-checks j (λ k. times (getD generator (k + 1) 0) (inverse (getD generator 0 0))) rest
 
 abbrev μ-loop : tie.MeasureT-loop
 μ-loop powers logarithms generator many lowest rest₀ j₀ rest j = many - j
@@ -24,7 +25,7 @@ inverse-by-requires : tie.Need-inverse-by-requires Inv-loop μ-loop
 inverse-by-requires c κs = search needs
 
 loop-holds : tie.Need-loop-holds Inv-loop μ-loop
-loop-holds c = (omega arith, filled-none 20 _ _ refl)
+loop-holds c = (omega arith, filled-none most-checks _ _ refl)
 
 add-product-by : tie.Need-add-product-by Inv-loop μ-loop
 add-product-by c = omega arith
@@ -45,7 +46,7 @@ loop-less : tie.Need-loop-less Inv-loop μ-loop
 loop-less c = omega arith
 
 loop-again : tie.Need-loop-again Inv-loop μ-loop
-loop-again c = (omega arith, filled-more 20 _ _ _ _ (c .before .before .before .loop .inv .1) (omega arith) (c .product-by .ensures ∙ ap (times _) (c .before .before .before .before .inverse-by .ensures)))
+loop-again c = (omega arith, filled-more most-checks _ _ _ _ (c .before .before .before .loop .inv .1) (omega arith) (c .product-by .ensures ∙ ap (times _) (c .before .before .before .before .inverse-by .ensures)))
 
 returns : tie.Need-returns Inv-loop μ-loop
 returns c = filled-to (let e : c .before .loop .j ≡ _ = omega arith in e) (c .before .loop .inv .1)

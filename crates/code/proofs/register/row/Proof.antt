@@ -1,21 +1,23 @@
 -- `row` meets its contract. Assumes nothing.
 use mathlib.Core.Path.{_≡_, refl}
-use Prim.Native.Nat.{_+_, _*_, _-_, _≤_}
+use Prim.Native.Nat.{_-_, _≤_}
 use native.Mathlib.Omega.{arith}
 use lib.ListN.{getD}
-use Rattle.code.specs.Array.{Filled}
+use Rattle.code.specs.Steps.Lanes.{in-row}
+use Rattle.code.specs.Size.{row-width}
+use Rattle.code.specs.Steps.Array.{Filled}
 use Rattle.code.proofs.Written.{filled-none, filled-more, filled-to}
 use Rattle.code.proofs.register.row.Statement.{statement}
 use Rattle.code.proofs.register.row.Tie as tie
 
 abbrev Inv-loop : tie.InvT-loop
-Inv-loop rows s value₀ p₀ value p = (p ≤ 8) × Filled 8 p (λ q. getD rows (8 * s + q) 0) value
+Inv-loop rows s value₀ p₀ value p = (p ≤ row-width) × Filled row-width p (λ q. getD rows (in-row s q) 0) value
 
 abbrev μ-loop : tie.MeasureT-loop
-μ-loop rows s value₀ p₀ value p = 8 - p
+μ-loop rows s value₀ p₀ value p = row-width - p
 
 loop-holds : tie.Need-loop-holds Inv-loop μ-loop
-loop-holds c = (omega arith, filled-none 8 _ _ refl)
+loop-holds c = (omega arith, filled-none row-width _ _ refl)
 
 mul-value : tie.Need-mul-value Inv-loop μ-loop
 mul-value c = omega arith
@@ -36,10 +38,10 @@ loop-less : tie.Need-loop-less Inv-loop μ-loop
 loop-less c = omega arith
 
 loop-again : tie.Need-loop-again Inv-loop μ-loop
-loop-again c = (omega arith, filled-more 8 _ _ _ _ (c .before .before .loop .inv .1) (omega arith) refl)
+loop-again c = (omega arith, filled-more row-width _ _ _ _ (c .before .before .loop .inv .1) (omega arith) refl)
 
 returns : tie.Need-returns Inv-loop μ-loop
-returns c = filled-to (let e : c .before .loop .p ≡ 8 = omega arith in e) (c .before .loop .inv .1)
+returns c = filled-to (let e : c .before .loop .p ≡ row-width = omega arith in e) (c .before .loop .inv .1)
 
 pub row-spec : {M : Type 1} → statement M
 row-spec =

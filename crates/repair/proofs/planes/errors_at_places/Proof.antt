@@ -5,9 +5,9 @@ use native.Mathlib.Omega.{arith}
 use lib.ListN.{getD}
 use lib.Seq.{length-take-le}
 use Rattle.code.specs.Settings.{settings, check-count}
-use Rattle.code.specs.Lanes.{lane}
-use Rattle.repair.specs.Errors.{wrong-places}
-use Rattle.repair.specs.Planes.{Weighted, Counted-as}
+use Rattle.code.specs.Steps.Lanes.{lane}
+use Rattle.locator.specs.Errors.{wrong-places}
+use Rattle.repair.specs.Steps.Planes.{Weighted, Counted-as}
 use Rattle.repair.proofs.Located.{locator-values}
 use Rattle.repair.proofs.PlaneErrors.{lane-locator, weighted-none, weighted-more, counted-more, written-by}
 use Rattle.repair.proofs.planes.errors_at_places.Statement.{statement}
@@ -92,7 +92,7 @@ weighted-errors-requires c κs =
           (
             λ j h.
                 locator-values (l .loop .p) (a .t + 1) (a .n) (2 * a .t) (a .rows .now) (a .values .now) _ _ (omega arith) (c .before .before .before .before .before .before .before .before .place-powers .ensures) values
-                (lane-locator (l .loop .p) (a .size) (2 * a .t) (a .t) (a .sums .now) (a .t4) (a .rows .now) (c .before .before .before .before .plane-of2 .result) inside (omega arith) d (c .before .before .before .before .plane-of2 .ensures))
+                (lane-locator (l .loop .p) (a .planes) (2 * a .t) (a .t) (a .sums .now) (a .t4) (a .rows .now) (c .before .before .before .before .plane-of2 .result) inside (omega arith) d (c .before .before .before .before .plane-of2 .ensures))
                 j (omega arith),
             λ j h. l .loop .inv .1 .others j (l .loop .p) (omega arith) (omega arith),
           ),
@@ -119,10 +119,10 @@ returns c =
     let inside = c .before .before .before .before .before .before .before .before .before .before .before .loop-test .taken in
     let bounds = s .pre .1 .0 in
     let w =
-    written-by (l .loop .p) (a .size) (a .t) (a .n) (a .sums .now) (a .t4) (a .rows .now) (c .before .before .before .before .before .before .before .before .before .before .plane-of .result) (c .before .before .before .before .before .before .before .before .before .plane-of2 .result) (c .before .before .before .before .before .before .before .before .before .before .before .before .before .place-powers .result) _ _ inside
+    written-by (l .loop .p) (a .planes) (a .t) (a .n) (a .sums .now) (a .t4) (a .rows .now) (c .before .before .before .before .before .before .before .before .before .before .plane-of .result) (c .before .before .before .before .before .before .before .before .before .plane-of2 .result) (c .before .before .before .before .before .before .before .before .before .before .before .before .before .place-powers .result) _ _ inside
     (omega arith) (omega arith) (s .pre .1 .1 .0) (c .before .before .before .before .before .before .before .before .before .before .plane-of .ensures) (c .before .before .before .before .before .before .before .before .before .plane-of2 .ensures) (c .before .before .before .before .weighted-errors .ensures)
     (length-take-le (a .n + 2 * a .t) (c .before .before .before .before .before .before .before .before .before .before .before .before .before .place-powers .result) (omega (arith, c .before .before .before .before .before .before .before .before .before .before .before .before .before .place-powers .ensures .long))) in
-    let next = weighted-more (l .loop .p) (settings (a .n) (a .t) (a .size)) (a .sums .now) _ _ _ (omega arith) (c .before .before .before .before .before .before .before .before .before .before .before .before .before .place-powers .ensures) (l .loop .inv .1) w in
+    let next = weighted-more (l .loop .p) (settings (a .n) (a .t) (a .planes)) (a .sums .now) _ _ _ (omega arith) (c .before .before .before .before .before .before .before .before .before .before .before .before .before .place-powers .ensures) (l .loop .inv .1) w in
     (l .loop .p, inside, (_, next .located (l .loop .p) (omega arith), omega (arith, c .before .count-wrong .ensures .0)))
 
 add-p : tie.Need-add-p Inv-loop μ-loop
@@ -140,10 +140,10 @@ loop-again c =
     let inside = c .before .before .before .before .before .before .before .before .before .before .before .loop-test .taken in
     let bounds = s .pre .1 .0 in
     let w =
-    written-by (l .loop .p) (a .size) (a .t) (a .n) (a .sums .now) (a .t4) (a .rows .now) (c .before .before .before .before .before .before .before .before .before .before .plane-of .result) (c .before .before .before .before .before .before .before .before .before .plane-of2 .result) (c .before .before .before .before .before .before .before .before .before .before .before .before .before .place-powers .result) _ _ inside
+    written-by (l .loop .p) (a .planes) (a .t) (a .n) (a .sums .now) (a .t4) (a .rows .now) (c .before .before .before .before .before .before .before .before .before .before .plane-of .result) (c .before .before .before .before .before .before .before .before .before .plane-of2 .result) (c .before .before .before .before .before .before .before .before .before .before .before .before .before .place-powers .result) _ _ inside
     (omega arith) (omega arith) (s .pre .1 .1 .0) (c .before .before .before .before .before .before .before .before .before .before .plane-of .ensures) (c .before .before .before .before .before .before .before .before .before .plane-of2 .ensures) (c .before .before .before .before .weighted-errors .ensures)
     (length-take-le (a .n + 2 * a .t) (c .before .before .before .before .before .before .before .before .before .before .before .before .before .place-powers .result) (omega (arith, c .before .before .before .before .before .before .before .before .before .before .before .before .before .place-powers .ensures .long))) in
-    let next = weighted-more (l .loop .p) (settings (a .n) (a .t) (a .size)) (a .sums .now) _ _ _ (omega arith) (c .before .before .before .before .before .before .before .before .before .before .before .before .before .place-powers .ensures) (l .loop .inv .1) w in
+    let next = weighted-more (l .loop .p) (settings (a .n) (a .t) (a .planes)) (a .sums .now) _ _ _ (omega arith) (c .before .before .before .before .before .before .before .before .before .before .before .before .before .place-powers .ensures) (l .loop .inv .1) w in
     (omega arith, next, counted-more (l .loop .p) (a .n + 2 * a .t) (a .t) _ _ _ (omega arith) w (omega (arith, c .before .count-wrong .ensures .0)) (l .loop .inv .2))
 
 returns-2 : tie.Need-returns-2 Inv-loop μ-loop
@@ -151,8 +151,8 @@ unfolding settings check-count Counted-as
 returns-2 c =
     let l = c .before in
     let s = l .before .before .before .before .before in
-    let e : l .loop .p ≡ s .args .size = omega arith in (
-      subst (λ (k : ℕ). Weighted k (settings (s .args .n) (s .args .t) (s .args .size)) (s .args .sums .now) (l .loop .weighted)) e (l .loop .inv .1),
+    let e : l .loop .p ≡ s .args .planes = omega arith in (
+      subst (λ (k : ℕ). Weighted k (settings (s .args .n) (s .args .t) (s .args .planes)) (s .args .sums .now) (l .loop .weighted)) e (l .loop .inv .1),
       λ q h. l .loop .inv .2 q (omega arith),
     )
 

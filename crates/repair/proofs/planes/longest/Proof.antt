@@ -17,11 +17,11 @@ abbrev μ-loop : tie.MeasureT-loop
 loop-holds : tie.Need-loop-holds Inv-loop μ-loop
 loop-holds c = (omega arith, λ q h. absurd (omega arith), λ k h. omega arith)
 
-mul-size : tie.Need-mul-size Inv-loop μ-loop
-mul-size c = omega arith
+mul-degree : tie.Need-mul-degree Inv-loop μ-loop
+mul-degree c = omega arith
 
-array-read-size : tie.Need-array-read-size Inv-loop μ-loop
-array-read-size c = omega arith
+array-read-degree : tie.Need-array-read-degree Inv-loop μ-loop
+array-read-degree c = omega arith
 
 add-p : tie.Need-add-p Inv-loop μ-loop
 add-p c = omega arith
@@ -46,8 +46,8 @@ longest-spec =
     Inv-loop
     μ-loop
     loop-holds
-    mul-size
-    array-read-size
+    mul-degree
+    array-read-degree
     add-p
     loop-less
     loop-again

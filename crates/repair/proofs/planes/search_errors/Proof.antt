@@ -1,4 +1,4 @@
--- `search_errors` meets its contract: locators, errors and the residual, each with its own way to fail. Assumes nothing.
+-- `search_errors` meets its contract: locators, errors and what they leave, each with its own way to fail. Assumes nothing.
 use mathlib.Core.Path.{refl}
 use native.Mathlib.Omega.{arith}
 use borrow.Author.Tests.{not-true, not-false}
@@ -56,11 +56,11 @@ errors-at-places-requires c κs =
 returns-2 : tie.Need-returns-2
 returns-2 c = not-counted _ _ _ _ _ (not-true _ (c .if2 .taken)) (c .before .before .errors-at-places .ensures)
 
-slice-aggregate-residual : tie.Need-slice-aggregate-residual
-slice-aggregate-residual c = search needs
+slice-aggregate-leaves-nothing : tie.Need-slice-aggregate-leaves-nothing
+slice-aggregate-leaves-nothing c = search needs
 
-residual-requires : tie.Need-residual-requires
-residual-requires c κs =
+leaves-nothing-requires : tie.Need-leaves-nothing-requires
+leaves-nothing-requires c κs =
     let s = c .before .before .before .before .before .before .before .before .before .before .before .before .before .before .before .before in
     let d = all-counted _ _ _ _ _ (not-false _ (c .before .before .if2 .left)) (c .before .before .before .before .errors-at-places .ensures) in
     (s .pre .0 .0, omega arith, omega arith, omega arith, omega (arith, d .errors .long))
@@ -69,9 +69,9 @@ returns-3 : tie.Need-returns-3
 unfolding settings check-count
 returns-3 c =
     let s = c .before .before .before .before .before .before .before .before .before .before .before .before .before .before .before .before .before in
-    decoded _ _ (settings (s .args .n) (s .args .t) (s .args .size)) _ _ (omega arith) (s .pre .1 .1)
+    decoded _ _ (settings (s .args .n) (s .args .t) (s .args .planes)) _ _ (omega arith) (s .pre .1 .1)
     (all-counted _ _ _ _ _ (not-false _ (c .before .before .before .if2 .left)) (c .before .before .before .before .before .errors-at-places .ensures))
-    (c .residual .ensures (settings (s .args .n) (s .args .t) (s .args .size)) refl refl)
+    (c .leaves-nothing .ensures (settings (s .args .n) (s .args .t) (s .args .planes)) refl refl)
 
 pub search-errors-spec : {M : Type 1} → statement M
 search-errors-spec =
@@ -88,6 +88,6 @@ search-errors-spec =
     slice-aggregate-errors-at-places-2
     errors-at-places-requires
     returns-2
-    slice-aggregate-residual
-    residual-requires
+    slice-aggregate-leaves-nothing
+    leaves-nothing-requires
     returns-3)

@@ -54,7 +54,7 @@ loop-again c =
     let a = l .before .before .args in
     let bounds = l .before .before .pre .1 in (
       omega arith,
-      singles-more (l .loop .p) (c .before .before .single-place .result) (settings (a .n) (a .t) (a .size)) (a .sums .now) (l .loop .weighted) (omega arith) (omega arith)
+      singles-more (l .loop .p) (c .before .before .single-place .result) (settings (a .n) (a .t) (a .planes)) (a .sums .now) (l .loop .weighted) (omega arith) (omega arith)
           (omega arith) (omega arith) (c .shared-slice-known2 .given (l .loop .p) .fits) (c .before .before .single-place .ensures) (l .loop .inv .1),
     )
 

@@ -1,0 +1,63 @@
+-- `copy_full` meets its contract. Assumes nothing.
+use mathlib.Core.Path.{_≡_, refl}
+use Prim.Native.Nat.{_+_, _-_, _≤_}
+use native.Mathlib.Omega.{arith}
+use lib.ListN.{getD}
+use Rattle.code.specs.Size.{value-room}
+use Rattle.code.specs.Steps.Array.{Written}
+use Rattle.code.proofs.Written.{written-none, written-more, written-to}
+use Rattle.code.proofs.planes.copy_full.Statement.{statement}
+use Rattle.code.proofs.planes.copy_full.Tie as tie
+
+abbrev Inv-loop : tie.InvT-loop
+Inv-loop to₀ at from start p₀ to p = (p ≤ value-room) × Written at p (λ q. getD from (start + q) 0) to₀ to
+
+abbrev μ-loop : tie.MeasureT-loop
+μ-loop to₀ at from start p₀ to p = value-room - p
+
+loop-holds : tie.Need-loop-holds Inv-loop μ-loop
+loop-holds c = (omega arith, written-none _ _ _)
+
+add-to : tie.Need-add-to Inv-loop μ-loop
+add-to c = omega arith
+
+shared-slice-read-to : tie.Need-shared-slice-read-to Inv-loop μ-loop
+shared-slice-read-to c = omega arith
+
+add-to-2 : tie.Need-add-to-2 Inv-loop μ-loop
+add-to-2 c = omega arith
+
+slice-write-to : tie.Need-slice-write-to Inv-loop μ-loop
+slice-write-to c = omega arith
+
+add-p : tie.Need-add-p Inv-loop μ-loop
+add-p c = omega arith
+
+loop-less : tie.Need-loop-less Inv-loop μ-loop
+loop-less c = omega arith
+
+loop-again : tie.Need-loop-again Inv-loop μ-loop
+loop-again c = (omega arith, written-more _ _ _ _ _ _ (c .before .before .loop .inv .1) (omega arith) refl)
+
+same-length : tie.Need-same-length Inv-loop μ-loop
+same-length c = c .before .loop .inv .1 .long
+
+returns : tie.Need-returns Inv-loop μ-loop
+returns c = written-to (let e : c .before .loop .p ≡ value-room = omega arith in e) (c .before .loop .inv .1)
+
+pub copy-full-spec : {M : Type 1} → statement M
+copy-full-spec =
+    tie.close
+    (tie.spec
+    Inv-loop
+    μ-loop
+    loop-holds
+    add-to
+    shared-slice-read-to
+    add-to-2
+    slice-write-to
+    add-p
+    loop-less
+    loop-again
+    same-length
+    returns)

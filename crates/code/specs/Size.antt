@@ -1,0 +1,58 @@
+-- Sizes of the program's arrays: the most of each thing that settings allow, and the width of a row. Assumes nothing: these are
+-- definitions.
+use Prim.Native.Nat.{ℕ, _+_, _*_}
+
+abbrev pub most-columns : ℕ
+most-columns = 32
+
+-- the bad columns that are borne
+abbrev pub most-bad : ℕ
+most-bad = 10
+
+-- two check values for each bad column
+abbrev pub most-checks : ℕ
+most-checks = 2 * most-bad
+
+-- the generator's coefficients: one more than its roots
+abbrev pub generator-room : ℕ
+generator-room = most-checks + 1
+
+-- the places of a plane: one for each column and each check
+abbrev pub most-places : ℕ
+most-places = most-columns + most-checks
+
+-- room for a plane of power sums, or for the coefficients of its locator
+abbrev pub plane-room : ℕ
+plane-room = 32
+
+-- the most bytes of a value
+abbrev pub value-room : ℕ
+value-room = 8
+
+-- room for a value of every column
+abbrev pub vector-room : ℕ
+vector-room = most-columns * value-room
+
+-- room for every check value
+abbrev pub checks-room : ℕ
+checks-room = most-checks * value-room
+
+-- the byte planes that a row has room for, at least the most bytes of a value
+abbrev pub row-width : ℕ
+row-width = 8
+
+-- a row for each place
+abbrev pub place-rows : ℕ
+place-rows = row-width * most-places
+
+-- a row for each check
+abbrev pub check-rows : ℕ
+check-rows = row-width * most-checks
+
+-- a row for each coefficient of a locator
+abbrev pub locator-rows : ℕ
+locator-rows = row-width * (most-bad + 1)
+
+-- a row for each multiple of a value by half a byte
+abbrev pub multiple-rows : ℕ
+multiple-rows = row-width * 16

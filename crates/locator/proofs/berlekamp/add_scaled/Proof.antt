@@ -1,0 +1,85 @@
+-- `locator::add_scaled` meets its contract: the loop has added the coefficients below i. Assumes nothing.
+use mathlib.Core.Path.{_≡_, refl, sym, _∙_, ap, ap₂}
+use mathlib.Core.List.{List}
+use Prim.Native.Nat.{ℕ, _-_, _≤_}
+use native.Mathlib.Omega.{arith}
+use native.Mathlib.Numerals.{add-one}
+use lib.ListN.{length, getD, take, set, length-set}
+use lib.Seq.{take-length}
+use Rattle.field.specs.Field.{plus}
+use Rattle.code.specs.Polynomial.{added, scaled}
+use Rattle.locator.proofs.Coefficients.{added-first, added-turn}
+use Rattle.locator.proofs.berlekamp.add_scaled.Statement.{statement}
+use Rattle.locator.proofs.berlekamp.add_scaled.Tie as tie
+
+abbrev Inv-loop : tie.InvT-loop
+Inv-loop powers logarithms polynomial₀ factor other i₀ polynomial i =
+    (i ≤ length other) × (length polynomial ≡ length polynomial₀) × (polynomial ≡ added polynomial₀ (scaled factor (take i other)))
+
+abbrev μ-loop : tie.MeasureT-loop
+μ-loop powers logarithms polynomial₀ factor other i₀ polynomial i = length other - i
+
+loop-holds : tie.Need-loop-holds Inv-loop μ-loop
+loop-holds c = (omega arith, refl, added-first (c .before .before .args .factor) (c .before .before .args .polynomial .now) (c .before .before .args .other .now))
+
+slice-read-sum : tie.Need-slice-read-sum Inv-loop μ-loop
+slice-read-sum c = omega arith
+
+shared-slice-read-product-by : tie.Need-shared-slice-read-product-by Inv-loop μ-loop
+shared-slice-read-product-by c = omega arith
+
+product-by-requires : tie.Need-product-by-requires Inv-loop μ-loop
+product-by-requires c κs = c .before .before .before .before .before .before .pre .0
+
+sum-requires : tie.Need-sum-requires Inv-loop μ-loop
+sum-requires c κs = tt
+
+slice-write-polynomial : tie.Need-slice-write-polynomial Inv-loop μ-loop
+slice-write-polynomial c = omega arith
+
+add-i : tie.Need-add-i Inv-loop μ-loop
+add-i c = omega arith
+
+loop-less : tie.Need-loop-less Inv-loop μ-loop
+loop-less c = omega arith
+
+loop-again : tie.Need-loop-again Inv-loop μ-loop
+loop-again c =
+    let d = c .before .before .before .before .before in
+    let y = d .before .before .before .args in (
+      omega arith,
+      length-set (d .loop .polynomial) (d .loop .i) (c .sum .result) ∙ d .loop .inv .1,
+      ap₂ (λ (p : List ℕ) (v : ℕ). set p (d .loop .i) v) (d .loop .inv .2)
+          (c .sum .ensures ∙ ap₂ plus (ap (λ (p : List ℕ). getD p (d .loop .i) 0) (d .loop .inv .2)) (c .before .product-by .ensures))
+          ∙ added-turn (y .factor) (d .loop .i) (y .polynomial .now) (y .other .now) (omega arith) (omega arith)
+          ∙ ap (λ (n : ℕ). added (y .polynomial .now) (scaled (y .factor) (take n (y .other .now)))) (sym (add-one (d .loop .i))),
+    )
+
+same-length : tie.Need-same-length Inv-loop μ-loop
+same-length c = c .before .loop .inv .1
+
+returns : tie.Need-returns Inv-loop μ-loop
+returns c =
+    let d = c .before in
+    let y = d .before .before .before .args in
+    d .loop .inv .2
+    ∙ ap (λ (q : List ℕ). added (y .polynomial .now) (scaled (y .factor) q))
+    (ap (λ (n : ℕ). take n (y .other .now)) (let e : d .loop .i ≡ length (y .other .now) = omega arith in e) ∙ take-length (y .other .now))
+
+pub add-scaled-spec : {M : Type 1} → statement M
+add-scaled-spec =
+    tie.close
+    (tie.spec
+    Inv-loop
+    μ-loop
+    loop-holds
+    slice-read-sum
+    shared-slice-read-product-by
+    product-by-requires
+    sum-requires
+    slice-write-polynomial
+    add-i
+    loop-less
+    loop-again
+    same-length
+    returns)

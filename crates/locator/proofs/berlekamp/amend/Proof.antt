@@ -1,0 +1,79 @@
+-- `locator::amend` meets its contract: the part of the locator from the shift on is added to, and put back in its place.
+-- Assumes nothing.
+use mathlib.Core.Path.{sym, ap}
+use mathlib.Core.List.{List, _++_}
+use Prim.Native.Nat.{ℕ, _+_, _-_, _*_}
+use native.Mathlib.Omega.{arith}
+use lib.ListN.{length, take, drop, length-take, length-drop}
+use lib.Seq.{length-take-le}
+use borrow.Author.Needs.{needs}
+use Rattle.locator.specs.Held.{located}
+use Rattle.locator.proofs.Held.{carries-as-long}
+use Rattle.locator.proofs.berlekamp.amend.Statement.{statement}
+use Rattle.locator.proofs.berlekamp.amend.Tie as tie
+
+mul-shift : tie.Need-mul-shift
+mul-shift c = omega arith
+
+add-shift : tie.Need-add-shift
+add-shift c = omega arith
+
+sub-shift : tie.Need-sub-shift
+sub-shift c = omega arith
+
+sub-add-scaled : tie.Need-sub-add-scaled
+sub-add-scaled c = omega arith
+
+part-add-scaled-start : tie.Need-part-add-scaled-start
+part-add-scaled-start c = omega arith
+
+part-add-scaled-end : tie.Need-part-add-scaled-end
+part-add-scaled-end c = omega arith
+
+add-add-scaled : tie.Need-add-add-scaled
+add-add-scaled c = omega arith
+
+sub-add-scaled-2 : tie.Need-sub-add-scaled-2
+sub-add-scaled-2 c = omega arith
+
+slice-aggregate-add-scaled : tie.Need-slice-aggregate-add-scaled
+slice-aggregate-add-scaled c =
+    let y = c .before .before .before .before .args in
+    sym (length-take-le (y .k + 1 - y .size) (y .before .now) (omega arith))
+
+add-scaled-requires : tie.Need-add-scaled-requires
+add-scaled-requires c κs =
+    let d = c .before .before .before .before in
+    let y = d .args in
+    let s = 2 * y .size - (y .k + 1) in
+    let p = y .locator .now in
+    (d .pre .0, omega (arith, length-take (y .k + 1 - y .size) (y .before .now), length-take (length p - s) (drop s p), length-drop s p))
+
+same-length : tie.Need-same-length
+same-length c = search needs
+
+returns : tie.Need-returns
+returns c =
+    let y = c .before .before .before .before .before .before .before .args in
+    let s = 2 * y .size - (y .k + 1) in
+    let p = y .locator .now in
+    carries-as-long (y .k) (y .discrepancy) (omega arith) (located p (y .before .now) (y .size)) (length p - s) _
+    (omega arith) (omega arith) (omega arith) (omega arith)
+    (ap (λ (q : List ℕ). take s p ++ (q ++ drop (length p - s) (drop s p))) (c .before .before .add-scaled .ensures))
+
+pub amend-spec : {M : Type 1} → statement M
+amend-spec =
+    tie.close
+    (tie.spec
+    mul-shift
+    add-shift
+    sub-shift
+    sub-add-scaled
+    part-add-scaled-start
+    part-add-scaled-end
+    add-add-scaled
+    sub-add-scaled-2
+    slice-aggregate-add-scaled
+    add-scaled-requires
+    same-length
+    returns)

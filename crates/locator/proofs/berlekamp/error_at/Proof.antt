@@ -1,0 +1,100 @@
+-- `locator::error_at` meets its contract: after the coefficients from m on the loop has their value at x, and of their quotient
+-- the value and the sum; at the end the locator's own value says whether x is a root. Assumes nothing.
+use mathlib.Core.Path.{_∙_, ap}
+use Prim.Native.Nat.{ℕ}
+use native.Mathlib.Omega.{arith}
+use Rattle.field.specs.Field.{plus, times}
+use Rattle.locator.proofs.Horner.{entries, Divided, divided-end, divided-turn, divided-root, divided-else}
+use Rattle.locator.proofs.berlekamp.error_at.Statement.{statement}
+use Rattle.locator.proofs.berlekamp.error_at.Tie as tie
+
+abbrev Inv-loop : tie.InvT-loop
+Inv-loop powers logarithms locator sums x whole₀ divided₀ sum₀ m₀ whole divided sum m =
+    Divided locator (entries sums) x whole divided sum m
+
+abbrev μ-loop : tie.MeasureT-loop
+μ-loop powers logarithms locator sums x whole₀ divided₀ sum₀ m₀ whole divided sum m = m
+
+loop-holds : tie.Need-loop-holds Inv-loop μ-loop
+loop-holds c = divided-end (c .before .before .args .locator .now) (entries (c .before .before .args .sums .now)) (c .before .before .args .x)
+
+sub-m : tie.Need-sub-m Inv-loop μ-loop
+sub-m c = omega arith
+
+shared-slice-read-product-by : tie.Need-shared-slice-read-product-by Inv-loop μ-loop
+shared-slice-read-product-by c = omega arith
+
+product-by-requires : tie.Need-product-by-requires Inv-loop μ-loop
+product-by-requires c κs = c .before .before .before .before .before .pre .0
+
+sum-requires : tie.Need-sum-requires Inv-loop μ-loop
+sum-requires c κs = tt
+
+product-by-requires-2 : tie.Need-product-by-requires-2 Inv-loop μ-loop
+product-by-requires-2 c κs = c .before .before .before .before .before .before .before .pre .0
+
+sum-requires-2 : tie.Need-sum-requires-2 Inv-loop μ-loop
+sum-requires-2 c κs = tt
+
+shared-slice-read-sum : tie.Need-shared-slice-read-sum Inv-loop μ-loop
+shared-slice-read-sum c = omega arith
+
+product-by-requires-3 : tie.Need-product-by-requires-3 Inv-loop μ-loop
+product-by-requires-3 c κs = c .before .before .before .before .before .before .before .before .before .before .pre .0
+
+sum-requires-3 : tie.Need-sum-requires-3 Inv-loop μ-loop
+sum-requires-3 c κs = tt
+
+loop-less : tie.Need-loop-less Inv-loop μ-loop
+loop-less c = omega arith
+
+loop-again : tie.Need-loop-again Inv-loop μ-loop
+loop-again c =
+    let d = c .before .before .before .before .before .before .before .before .before in
+    let y = d .before .before .before .args in
+    divided-turn (y .locator .now) (entries (y .sums .now)) (y .x) (d .loop .whole) (d .loop .divided) (d .loop .sum) (d .loop .m) (omega arith) (omega arith) (d .loop .inv)
+    (c .sum3 .ensures ∙ ap (plus _) (c .before .product-by3 .ensures))
+    (c .before .before .before .sum2 .ensures ∙ ap (plus _) (c .before .before .before .before .product-by2 .ensures))
+    (c .before .before .before .before .before .sum .ensures ∙ ap (λ (z : ℕ). plus z (d .loop .sum)) (c .before .before .before .before .before .before .product-by .ensures))
+
+inverse-by-requires : tie.Need-inverse-by-requires Inv-loop μ-loop
+inverse-by-requires c κs = c .before .before .before .before .before .pre .0
+
+product-by-requires-4 : tie.Need-product-by-requires-4 Inv-loop μ-loop
+product-by-requires-4 c κs = c .before .before .before .before .before .before .pre .0
+
+returns : tie.Need-returns Inv-loop μ-loop
+returns c =
+    let d = c .before .before .before .before in
+    let y = d .before .before .before .args in
+    c .product-by4 .ensures ∙ ap (times _) (c .before .inverse-by .ensures)
+    ∙ divided-root (y .locator .now) (entries (y .sums .now)) (y .x) (d .loop .whole) (d .loop .divided) (d .loop .sum) (d .loop .m) (omega arith) (d .loop .inv) (c .before .before .if1 .taken)
+
+returns-2 : tie.Need-returns-2 Inv-loop μ-loop
+returns-2 c =
+    let d = c .before .before in
+    let y = d .before .before .before .args in
+    divided-else (y .locator .now) (entries (y .sums .now)) (y .x) (d .loop .whole) (d .loop .divided) (d .loop .sum) (d .loop .m) (omega arith) (d .loop .inv) (c .if1 .left)
+
+pub error-at-spec : {M : Type 1} → statement M
+error-at-spec =
+    tie.close
+    (tie.spec
+    Inv-loop
+    μ-loop
+    loop-holds
+    sub-m
+    shared-slice-read-product-by
+    product-by-requires
+    sum-requires
+    product-by-requires-2
+    sum-requires-2
+    shared-slice-read-sum
+    product-by-requires-3
+    sum-requires-3
+    loop-less
+    loop-again
+    inverse-by-requires
+    product-by-requires-4
+    returns
+    returns-2)

@@ -1,0 +1,95 @@
+-- `weighted_errors` meets its contract: at the roots listed the errors are written, and where the locator is not 0 the error is 0 by
+-- definition. Assumes nothing.
+use mathlib.Core.Path.{_≡_, _∙_}
+use Prim.Native.Nat.{_-_, _≤_, _<_}
+use native.Mathlib.Omega.{arith}
+use lib.ListN.{length, getD}
+use Rattle.code.specs.Steps.Lanes.{in-row}
+use Rattle.locator.specs.Locator.{value}
+use Rattle.locator.proofs.PlaneRows.{value-elsewhere}
+use Rattle.locator.proofs.Listing.{Listed-written, listed-written-none, listed-written-more, listed-written-lane}
+use Rattle.locator.proofs.plane.weighted_errors.Statement.{statement}
+use Rattle.locator.proofs.plane.weighted_errors.Tie as tie
+
+abbrev Inv-loop : tie.InvT-loop
+Inv-loop powers logarithms locator sums places values p weighted₀ many at i₀ weighted i =
+    (i ≤ many) × Listed-written i p (λ j. value (λ k. getD sums k 0) locator (getD places j 0)) at weighted₀ weighted
+
+abbrev μ-loop : tie.MeasureT-loop
+μ-loop powers logarithms locator sums places values p weighted₀ many at i₀ weighted i = many - i
+
+root-places-requires : tie.Need-root-places-requires Inv-loop μ-loop
+root-places-requires c κs = omega arith
+
+loop-holds : tie.Need-loop-holds Inv-loop μ-loop
+loop-holds c = (omega arith, listed-written-none _ _ _ _)
+
+mul-j : tie.Need-mul-j Inv-loop μ-loop
+mul-j c = omega (arith, c .before .before .before .root-places .ensures .few)
+
+array-read-j : tie.Need-array-read-j Inv-loop μ-loop
+array-read-j c = omega (arith, c .before .before .before .root-places .ensures .few)
+
+shared-slice-read-error-at : tie.Need-shared-slice-read-error-at Inv-loop μ-loop
+shared-slice-read-error-at c = c .before .before .before .before .root-places .ensures .each (c .before .before .loop .i) (c .before .loop-test .taken) .0
+
+error-at-requires : tie.Need-error-at-requires Inv-loop μ-loop
+error-at-requires c κs = let s = c .before .before .before .before .before .before .before .before .before .before in (s .pre .0, s .pre .1 .0 .0)
+
+-- a place listed is one of the places
+inside :
+    (c : tie.After-error-at Inv-loop μ-loop) →
+    getD (c .before .before .before .before .before .root-places .result .at) (c .before .before .before .loop .i) 0 < length (c .before .before .before .before .before .before .before .before .before .before .before .args .places .now)
+inside c = c .before .before .before .before .before .root-places .ensures .each (c .before .before .before .loop .i) (c .before .before .loop-test .taken) .0
+
+mul-weighted : tie.Need-mul-weighted Inv-loop μ-loop
+mul-weighted c = let bounds = c .before .before .before .before .before .before .before .before .before .before .before .pre .1 in omega (arith, inside c)
+
+add-weighted : tie.Need-add-weighted Inv-loop μ-loop
+add-weighted c = let bounds = c .before .before .before .before .before .before .before .before .before .before .before .pre .1 in omega (arith, inside c)
+
+slice-write-weighted : tie.Need-slice-write-weighted Inv-loop μ-loop
+slice-write-weighted c = let bounds = c .before .before .before .before .before .before .before .before .before .before .before .pre .1 in omega (arith, inside c, c .before .before .before .loop .inv .1 .long)
+
+add-i : tie.Need-add-i Inv-loop μ-loop
+add-i c = omega arith
+
+loop-less : tie.Need-loop-less Inv-loop μ-loop
+loop-less c = omega arith
+
+loop-again : tie.Need-loop-again Inv-loop μ-loop
+loop-again c =
+    let bounds = c .before .before .before .before .before .before .before .before .before .before .before .pre .1 in
+    (omega arith, listed-written-more _ _ _ _ _ _ _ (omega (arith, inside c)) (c .error-at .ensures) (c .before .before .before .loop .inv .1))
+
+same-length : tie.Need-same-length Inv-loop μ-loop
+same-length c = c .before .loop .inv .1 .long
+
+returns : tie.Need-returns Inv-loop μ-loop
+returns c =
+    let s = c .before .before .before .before .before .before .before .before .before in
+    let a = s .args in
+    listed-written-lane _ _ _ _ (λ j. getD (a .values .now) (in-row j (a .p)) 0) _ _ _ _ (let e : c .before .loop .i ≡ c .before .before .before .root-places .result .many = omega arith in e)
+    (c .before .before .before .root-places .ensures) (c .before .loop .inv .1)
+    (λ j h n. value-elsewhere _ _ _ (λ e. n (s .pre .1 .1 .1 .0 j h ∙ e))) (s .pre .1 .1 .1 .1)
+
+pub weighted-errors-spec : {M : Type 1} → statement M
+weighted-errors-spec =
+    tie.close
+    (tie.spec
+    Inv-loop
+    μ-loop
+    root-places-requires
+    loop-holds
+    mul-j
+    array-read-j
+    shared-slice-read-error-at
+    error-at-requires
+    mul-weighted
+    add-weighted
+    slice-write-weighted
+    add-i
+    loop-less
+    loop-again
+    same-length
+    returns)

@@ -1,0 +1,4 @@
+pub mod Locator
+pub mod Errors
+pub mod Held
+pub mod Plane

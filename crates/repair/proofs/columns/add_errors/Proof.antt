@@ -1,0 +1,90 @@
+-- `add_errors` meets its contract: a value without errors is copied. Assumes nothing.
+use mathlib.Core.Path.{_≡_, refl, _∙_, ap}
+use Prim.Native.Nat.{_-_, _≤_}
+use native.Mathlib.Omega.{arith}
+use lib.ListN.{length, getD}
+use Rattle.field.specs.Field.{plus, times}
+use Rattle.code.specs.Steps.Array.{Filled}
+use Rattle.code.proofs.Written.{filled-none, filled-more, filled-to}
+use Rattle.repair.proofs.ColumnErrors.{value-kept}
+use Rattle.repair.proofs.columns.add_errors.Statement.{statement}
+use Rattle.repair.proofs.columns.add_errors.Tie as tie
+
+abbrev Inv-loop : tie.InvT-loop
+Inv-loop powers logarithms constant value errors output₀ p₀ output p = (p ≤ length output₀) × Filled (length output₀) p (λ q. plus (getD value q 0) (times constant (getD errors q 0))) output
+
+abbrev μ-loop : tie.MeasureT-loop
+μ-loop powers logarithms constant value errors output₀ p₀ output p = length output₀ - p
+
+any-of-requires : tie.Need-any-of-requires Inv-loop μ-loop
+any-of-requires c κs = omega (arith, c .before .before .before .pre .1)
+
+copy-value-requires : tie.Need-copy-value-requires Inv-loop μ-loop
+copy-value-requires c κs = let p = c .before .before .before .before .before .before .pre .1 in (omega (arith, p), omega arith)
+
+same-length : tie.Need-same-length Inv-loop μ-loop
+same-length c = c .before .before .copy-value .ensures .long
+
+returns : tie.Need-returns Inv-loop μ-loop
+returns c =
+    let s = c .before .before .before .before .before .before .before .before .before in
+    value-kept (s .args .constant) (s .args .value .now) (s .args .errors .now) (s .args .output .now) _ (s .fits .constant .fits) (s .pre .1 .0) (s .pre .1 .1)
+    (λ i. c .before .before .before .before .before .before .before .before .shared-slice-known .given i .fits)
+    (c .before .before .before .before .before .any-of .ensures .none (c .before .before .before .before .if1 .taken)) (c .before .before .copy-value .ensures)
+
+loop-holds : tie.Need-loop-holds Inv-loop μ-loop
+loop-holds c = (omega arith, filled-none _ _ (c .before .before .before .before .before .args .output .now) refl)
+
+shared-slice-read-sum : tie.Need-shared-slice-read-sum Inv-loop μ-loop
+shared-slice-read-sum c = omega arith
+
+shared-slice-read-product-by : tie.Need-shared-slice-read-product-by Inv-loop μ-loop
+shared-slice-read-product-by c = omega arith
+
+product-by-requires : tie.Need-product-by-requires Inv-loop μ-loop
+product-by-requires c κs = c .before .before .before .before .before .before .before .before .before .pre .0
+
+sum-requires : tie.Need-sum-requires Inv-loop μ-loop
+sum-requires c κs = tt
+
+slice-write-output : tie.Need-slice-write-output Inv-loop μ-loop
+slice-write-output c = omega (arith, c .before .before .before .before .before .loop .inv .1 .long)
+
+add-p : tie.Need-add-p Inv-loop μ-loop
+add-p c = omega arith
+
+loop-less : tie.Need-loop-less Inv-loop μ-loop
+loop-less c = omega arith
+
+loop-again : tie.Need-loop-again Inv-loop μ-loop
+loop-again c =
+    let d = c .before .before .before .before .before in
+    (omega arith, filled-more _ _ _ _ _ (d .loop .inv .1) (omega arith) (c .sum .ensures ∙ ap (plus _) (c .before .product-by .ensures)))
+
+same-length-2 : tie.Need-same-length-2 Inv-loop μ-loop
+same-length-2 c = c .before .loop .inv .1 .long
+
+returns-2 : tie.Need-returns-2 Inv-loop μ-loop
+returns-2 c = filled-to (let e : c .before .loop .p ≡ _ = omega arith in e) (c .before .loop .inv .1)
+
+pub add-errors-spec : {M : Type 1} → statement M
+add-errors-spec =
+    tie.close
+    (tie.spec
+    Inv-loop
+    μ-loop
+    any-of-requires
+    copy-value-requires
+    same-length
+    returns
+    loop-holds
+    shared-slice-read-sum
+    shared-slice-read-product-by
+    product-by-requires
+    sum-requires
+    slice-write-output
+    add-p
+    loop-less
+    loop-again
+    same-length-2
+    returns-2)

@@ -1,0 +1,7 @@
+pub mod Zeros
+pub mod CheckRows
+pub mod Terms
+pub mod CheckSums
+pub mod ErrorSums
+pub mod PlaceRows
+pub mod PlacePowers

@@ -1,0 +1,86 @@
+-- `progression` meets its contract: the exponent stays below 255, since where a step would pass that it goes back by what the
+-- step lacks of 255, and the power of 2 is the same. Assumes nothing.
+use mathlib.Core.Path.{_≡_, refl, sym, _∙_, ap}
+use mathlib.Core.Logic.{⊎-elim}
+use Prim.Native.Nat.{ℕ, _+_, _*_, _-_, _≤_, _<_}
+use native.Mathlib.Omega.{arith}
+use native.Mathlib.Nat.{suc-mul}
+use native.Mathlib.Numerals.{add-one}
+use lib.ListN.{length}
+use Rattle.field.specs.Field.{times, power}
+use Rattle.field.proofs.Power.{power-add, power-past}
+use Rattle.field.proofs.Table.{powers-at}
+use Rattle.code.specs.Steps.Array.{Filled}
+use Rattle.code.proofs.Written.{filled-none, filled-more, filled-to}
+use Rattle.sums.proofs.places.progression.Statement.{statement}
+use Rattle.sums.proofs.places.progression.Tie as tie
+
+step-on :
+    (start step i e k : ℕ) → power 2 e ≡ power 2 (start + i * step) → power 2 k ≡ power 2 (e + step) → power 2 k ≡ power 2 (start + (i + 1) * step)
+step-on start step i e k h q =
+    q ∙ sym (power-add e step) ∙ ap (λ (x : ℕ). times x (power 2 step)) h ∙ power-add (start + i * step) step
+    ∙ ap (power 2) (rw (add-one i, suc-mul) (omega arith))
+
+abbrev Inv-loop : tie.InvT-loop
+Inv-loop powers start step constants₀ back exponent₀ i₀ constants exponent i =
+    (i ≤ length constants₀) × (exponent < 255) × (power 2 exponent ≡ power 2 (start + i * step))
+    × Filled (length constants₀) i (λ k. power 2 (start + k * step)) constants
+
+abbrev μ-loop : tie.MeasureT-loop
+μ-loop powers start step constants₀ back exponent₀ i₀ constants exponent i = length constants₀ - i
+
+sub-back : tie.Need-sub-back Inv-loop μ-loop
+sub-back c = omega arith
+
+loop-holds : tie.Need-loop-holds Inv-loop μ-loop
+loop-holds c = (omega arith, omega arith, ap (power 2) (omega arith), filled-none _ _ _ refl)
+
+element-copy-out-constants : tie.Need-element-copy-out-constants Inv-loop μ-loop
+element-copy-out-constants c = omega arith
+
+slice-write-constants : tie.Need-slice-write-constants Inv-loop μ-loop
+slice-write-constants c = omega arith
+
+add-exponent : tie.Need-add-exponent Inv-loop μ-loop
+add-exponent c = omega arith
+
+add-i : tie.Need-add-i Inv-loop μ-loop
+add-i c = omega arith
+
+loop-less : tie.Need-loop-less Inv-loop μ-loop
+loop-less c = omega arith
+
+loop-again : tie.Need-loop-again Inv-loop μ-loop
+loop-again c =
+    let l = c .before .before .before .loop in
+    let a = c .before .before .before .before .args in
+    let onward = step-on (a .start) (a .step) (l .i) (l .exponent) (c .if1 .exponent) (l .inv .2) in (
+      omega arith,
+      ⊎-elim (λ w. omega arith) (λ w. omega arith) (c .if1 .came),
+      ⊎-elim (λ w. onward (ap (power 2) (omega arith)))
+          (λ w. onward (sym (power-past _) ∙ ap (power 2) (let e : c .if1 .exponent + 255 ≡ l .exponent + a .step = omega arith in e))) (c .if1 .came),
+      filled-more _ _ _ _ _ (l .inv .3) (omega arith) (powers-at _ (c .before .before .before .before .pre .0) _ (l .inv .1) ∙ l .inv .2),
+    )
+
+same-length : tie.Need-same-length Inv-loop μ-loop
+same-length c = c .before .loop .inv .3 .long
+
+returns : tie.Need-returns Inv-loop μ-loop
+returns c = filled-to (let e : c .before .loop .i ≡ _ = omega arith in e) (c .before .loop .inv .3)
+
+pub progression-spec : {M : Type 1} → statement M
+progression-spec =
+    tie.close
+    (tie.spec
+    Inv-loop
+    μ-loop
+    sub-back
+    loop-holds
+    element-copy-out-constants
+    slice-write-constants
+    add-exponent
+    add-i
+    loop-less
+    loop-again
+    same-length
+    returns)

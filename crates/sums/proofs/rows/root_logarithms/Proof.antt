@@ -1,0 +1,82 @@
+-- `root_logarithms` meets its contract: what stands at a root in the table of logarithms is the root's. Assumes nothing.
+use mathlib.Core.Path.{_≡_, refl, _∙_, ap}
+use Prim.Native.Nat.{ℕ, _-_, _≤_}
+use native.Mathlib.Omega.{arith}
+use lib.ListN.{getD}
+use borrow.Author.Needs.{needs}
+use Rattle.field.specs.Field.{power}
+use Rattle.code.specs.Size.{most-checks}
+use Rattle.code.specs.Polynomial.{root}
+use Rattle.code.specs.Steps.Array.{Filled}
+use Rattle.code.proofs.Generator.{root-lt, root-nonzero}
+use Rattle.code.proofs.Written.{filled-none, filled-more}
+use Rattle.sums.proofs.rows.root_logarithms.Statement.{statement}
+use Rattle.sums.proofs.rows.root_logarithms.Tie as tie
+
+-- a root is a byte, and none is 0
+positive : (i : ℕ) → 1 ≤ root i
+positive i = let z : root i ≡ 0 → ⊥ = root-nonzero i in omega arith
+
+abbrev Inv-loop : tie.InvT-loop
+Inv-loop logarithms roots of-roots₀ i₀ of-roots i = (i ≤ most-checks) × Filled most-checks i (λ k. getD logarithms (root k) 0) of-roots
+
+abbrev μ-loop : tie.MeasureT-loop
+μ-loop logarithms roots of-roots₀ i₀ of-roots i = most-checks - i
+
+roots-requires : tie.Need-roots-requires Inv-loop μ-loop
+roots-requires c κs = search needs
+
+loop-holds : tie.Need-loop-holds Inv-loop μ-loop
+loop-holds c = (omega arith, filled-none _ _ _ refl)
+
+array-read-of-roots : tie.Need-array-read-of-roots Inv-loop μ-loop
+array-read-of-roots c = omega arith
+
+cast-of-roots : tie.Need-cast-of-roots Inv-loop μ-loop
+cast-of-roots c = search needs
+
+element-copy-out-of-roots : tie.Need-element-copy-out-of-roots Inv-loop μ-loop
+element-copy-out-of-roots c = let i = c .before .loop .i in rw (c .before .before .roots .ensures .entry i (omega arith)) (root-lt i)
+
+array-write-of-roots : tie.Need-array-write-of-roots Inv-loop μ-loop
+array-write-of-roots c = omega arith
+
+add-i : tie.Need-add-i Inv-loop μ-loop
+add-i c = omega arith
+
+loop-less : tie.Need-loop-less Inv-loop μ-loop
+loop-less c = omega arith
+
+loop-again : tie.Need-loop-again Inv-loop μ-loop
+loop-again c =
+    let l = c .before .before .loop in (
+      omega arith,
+      filled-more _ _ _ _ _ (l .inv .1) (omega arith)
+          (ap (λ (x : ℕ). getD (c .before .before .before .before .args .logarithms .now) x 0) (c .before .before .before .roots .ensures .entry (l .i) (omega arith))),
+    )
+
+returns : tie.Need-returns Inv-loop μ-loop
+returns c =
+    let t = c .before .before .before .pre in
+    let f = c .before .loop .inv .1 in
+    record {
+      small = λ i h. rw (f .new i (omega arith)) (t .small (root i) (positive i) (root-lt i));
+      exponent = λ i h. ap (power 2) (f .new i (omega arith)) ∙ t .exponent (root i) (positive i) (root-lt i);
+    }
+
+pub root-logarithms-spec : {M : Type 1} → statement M
+root-logarithms-spec =
+    tie.close
+    (tie.spec
+    Inv-loop
+    μ-loop
+    roots-requires
+    loop-holds
+    array-read-of-roots
+    cast-of-roots
+    element-copy-out-of-roots
+    array-write-of-roots
+    add-i
+    loop-less
+    loop-again
+    returns)

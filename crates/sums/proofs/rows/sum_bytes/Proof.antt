@@ -1,0 +1,73 @@
+-- `sum_bytes` meets its contract. Assumes nothing.
+use mathlib.Core.Path.{_≡_}
+use Prim.Native.Nat.{_+_, _-_, _≤_}
+use native.Mathlib.Omega.{arith}
+use lib.ListN.{getD}
+use borrow.Author.Needs.{needs}
+use Rattle.field.specs.Field.{plus}
+use Rattle.code.specs.Steps.Array.{Written}
+use Rattle.code.proofs.Written.{written-none, written-more, written-to}
+use Rattle.sums.proofs.rows.sum_bytes.Statement.{statement}
+use Rattle.sums.proofs.rows.sum_bytes.Tie as tie
+
+abbrev Inv-loop : tie.InvT-loop
+Inv-loop a b from many rows₀ to p₀ rows p =
+    (p ≤ many) × Written to p (λ q. plus (getD a (from + q) 0) (getD b (from + q) 0)) rows₀ rows
+
+abbrev μ-loop : tie.MeasureT-loop
+μ-loop a b from many rows₀ to p₀ rows p = many - p
+
+loop-holds : tie.Need-loop-holds Inv-loop μ-loop
+loop-holds c = (omega arith, written-none _ _ _)
+
+add-sum : tie.Need-add-sum Inv-loop μ-loop
+add-sum c = omega arith
+
+shared-slice-read-sum : tie.Need-shared-slice-read-sum Inv-loop μ-loop
+shared-slice-read-sum c = omega arith
+
+add-sum-2 : tie.Need-add-sum-2 Inv-loop μ-loop
+add-sum-2 c = omega arith
+
+shared-slice-read-sum-2 : tie.Need-shared-slice-read-sum-2 Inv-loop μ-loop
+shared-slice-read-sum-2 c = omega arith
+
+sum-requires : tie.Need-sum-requires Inv-loop μ-loop
+sum-requires c κs = search needs
+
+add-rows : tie.Need-add-rows Inv-loop μ-loop
+add-rows c = omega arith
+
+element-write-rows : tie.Need-element-write-rows Inv-loop μ-loop
+element-write-rows c = omega arith
+
+add-p : tie.Need-add-p Inv-loop μ-loop
+add-p c = omega arith
+
+loop-less : tie.Need-loop-less Inv-loop μ-loop
+loop-less c = omega arith
+
+loop-again : tie.Need-loop-again Inv-loop μ-loop
+loop-again c = (omega arith, written-more _ _ _ _ _ _ (c .before .before .before .before .loop .inv .1) (omega arith) (c .sum .ensures))
+
+returns : tie.Need-returns Inv-loop μ-loop
+returns c = written-to (let e : c .before .loop .p ≡ _ = omega arith in e) (c .before .loop .inv .1)
+
+pub sum-bytes-spec : {M : Type 1} → statement M
+sum-bytes-spec =
+    tie.close
+    (tie.spec
+    Inv-loop
+    μ-loop
+    loop-holds
+    add-sum
+    shared-slice-read-sum
+    add-sum-2
+    shared-slice-read-sum-2
+    sum-requires
+    add-rows
+    element-write-rows
+    add-p
+    loop-less
+    loop-again
+    returns)

@@ -1,0 +1,57 @@
+-- What the functions over rows of byte planes leave and answer. Assumes nothing: these are definitions.
+use mathlib.Core.Path.{_≡_}
+use mathlib.Core.Bool.{Bool, true, false}
+use mathlib.Core.List.{List}
+use Prim.Native.Nat.{ℕ, _+_, _*_, _-_, _≤_, _<_}
+use lib.ListN.{length, getD}
+use Rattle.field.specs.Field.{plus, power}
+use Rattle.code.specs.Size.{most-checks, row-width, check-rows}
+use Rattle.code.specs.Settings.{Settings, check-count}
+use Rattle.code.specs.Polynomial.{root}
+use Rattle.code.specs.Plane.{summed}
+use Rattle.code.specs.Steps.Lanes.{in-row, lane}
+use Rattle.locator.specs.Errors.{error-sum}
+
+-- a number that is 0 only where the first bytes all are, and where it is not 0, a byte that is not
+pub record Any (many any : ℕ) (bytes : List ℕ) : Type 0 where
+  pub none : any ≡ 0 → (k : ℕ) → k < many → getD bytes k 0 ≡ 0
+  pub some : (any ≡ 0 → ⊥) → (k : ℕ) × (getD bytes k 0 ≡ 0 → ⊥)
+
+-- whether every byte is 0, and where not, a byte that is not
+unfoldable pub Zeros-as : (answer : Bool) → (bytes : List ℕ) → Type 0
+Zeros-as true bs = (i : ℕ) → getD bs i 0 ≡ 0
+Zeros-as false bs = (i : ℕ) × (getD bs i 0 ≡ 0 → ⊥)
+
+-- two lists of values of so many bytes added into rows, as many as the first number says; every other byte is 0
+pub record Values-added (many size : ℕ) (own checks rows : List ℕ) : Type 0 where
+  pub long : length rows ≡ check-rows
+  pub sums :
+      (c p : ℕ) → c < many → p < size → getD rows (in-row c p) 0 ≡ plus (getD own (c * size + p) 0) (getD checks (c * size + p) 0)
+  pub spare : (c p : ℕ) → size ≤ p → p < row-width → getD rows (in-row c p) 0 ≡ 0
+  pub beyond : (i : ℕ) → row-width * many ≤ i → getD rows i 0 ≡ 0
+
+-- the exponents below 255 of the powers of 2 that the twenty roots are
+pub record Root-logarithms (bytes : List ℕ) : Type 0 where
+  pub small : (i : ℕ) → i < most-checks → getD bytes i 0 < 255
+  pub exponent : (i : ℕ) → i < most-checks → power 2 (getD bytes i 0) ≡ root i
+
+-- row i is at each plane the sum at root i of the first rows of checks, of which there are `count`
+pub record Check-sums (many count : ℕ) (checks sums : List ℕ) : Type 0 where
+  pub long : length sums ≡ check-rows
+  pub each : (i p : ℕ) → i < count → p < row-width → getD sums (in-row i p) 0 ≡ summed (root i) (count - 1) (lane p many checks)
+
+-- row i is at each plane the power sum i of the weighted errors in the first rows, for any settings of n columns and `count` checks
+pub record Error-sums (many n count : ℕ) (weighted sums : List ℕ) : Type 0 where
+  pub long : length sums ≡ check-rows
+  pub each :
+      (s : Settings) → s .n ≡ n → check-count s ≡ count → (i p : ℕ) → i < count → p < row-width →
+      getD sums (in-row i p) 0 ≡ error-sum s i 0 (lane p many weighted)
+
+-- what the weighted errors of plane p leave of its sum i
+abbrev pub residue : Settings → (i p : ℕ) → (sums weighted : List ℕ) → ℕ
+residue s i p S ys = plus (getD S (in-row i p) 0) (error-sum s i 0 (lane p (s .n + check-count s) ys))
+
+-- whether they leave nothing of any sum of any plane, and where not, a sum of which they do
+unfoldable pub Explained-as : (answer : Bool) → Settings → (sums weighted : List ℕ) → Type 0
+Explained-as true s S ys = (i p : ℕ) → i < check-count s → p < row-width → residue s i p S ys ≡ 0
+Explained-as false s S ys = (i p : ℕ) × (i < check-count s) × (p < row-width) × (residue s i p S ys ≡ 0 → ⊥)

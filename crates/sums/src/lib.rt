@@ -1,0 +1,3 @@
+// Sums over rows of byte planes, and values at all places.
+pub mod places;
+pub mod rows;
