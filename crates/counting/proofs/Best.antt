@@ -1,5 +1,5 @@
 -- The best so far and one more value. A value that is the best already, or is blank, changes nothing, so it need not be counted;
--- any other is compared by how often it is found, and how often a blank is found plays no part. Assumes nothing.
+-- any other is compared by how often it is found, and a best that is blank, which is not counted, goes behind it. Assumes nothing.
 use mathlib.Core.Path.{_≡_, refl, sym, _∙_, ap, ap₂}
 use mathlib.Core.Bool.{Bool, true, false, cond, _&&_, _||_, not}
 use mathlib.Core.List.{[], _∷_}
@@ -7,18 +7,20 @@ use Prim.Native.Nat.{ℕ, _+_, _*_, _-_, _≤_, _<_}
 use native.Mathlib.Omega.{arith}
 use lib.Dec.{ltb, leb, eqb}
 use lib.ListN.{length, take, replicate}
-use lib.Seq.{length-take-le}
 use borrow.Author.Tests.{le-ltb, le-leb, lt-leb, eq-eqb, eqb-true}
 use Rattle.code.specs.Settings.{Settings, settings, value-size}
+use Rattle.code.specs.Size.{value-room}
 use Rattle.code.specs.Vector.{same}
 use Rattle.code.proofs.Bytes.{and-split}
 use Rattle.code.proofs.Vector.{same-equal}
-use Rattle.counting.specs.Value.{Value, Rows, blank, is-blank, bytes-before}
-use Rattle.counting.specs.Held.{Held, held-as}
-use Rattle.counting.specs.Count.{found, better, agreed-at, held-of, held-at}
-use Rattle.counting.specs.Table.{better-by, next-best, Times-found, Most-found}
+use Rattle.grading.specs.Value.{Value, Rows, blank, is-blank, bytes-before}
+use Rattle.grading.specs.Held.{Held, held-as}
+use Rattle.counting.specs.Stored.{Stores-value}
+use Rattle.grading.specs.Count.{found, better, most, agreed-least, sure-least, likely-least, agreed-at, held-of, held-at}
+use Rattle.counting.specs.Steps.Table.{better-by, next-best, Most-found, Rates}
 use Rattle.counting.specs.declared.table.Counted.{Counted}
-use Rattle.counting.proofs.Order.{before-irrefl}
+use Rattle.grading.proofs.Order.{before-irrefl}
+use Rattle.counting.proofs.Padded.{stores-blank, stored-size}
 
 module _ (j : ℕ) (rows : Rows) where
   better-self : (v : Value) → better j rows v v ≡ false
@@ -39,15 +41,15 @@ module _ (j : ℕ) (rows : Rows) where
 
   -- by counts: that of the best counts only where it is no blank
   pub better-counted :
-      (v b : Value) (c d : ℕ) → c ≡ found j v rows → (is-blank b ≡ false → d ≡ found j b rows) → better-by c d v b ≡ better j rows v b
+      (v b : Value) (c d : ℕ) → c ≡ found j v rows → d ≡ cond (is-blank b) 0 (found j b rows) → better-by c d v b ≡ better j rows v b
   unfolding better-by better
-  better-counted v b c d e f = rw e (go (is-blank b) f)
+  better-counted v b c d e f = rw (e, f) (go (is-blank b))
     where
-      go : (q : Bool) → (q ≡ false → d ≡ found j b rows) →
-          (not (is-blank v) && (q || (ltb d (found j v rows) || (eqb d (found j v rows) && bytes-before v b))))
+      go : (q : Bool) →
+          (not (is-blank v) && (q || (ltb (cond q 0 (found j b rows)) (found j v rows) || (eqb (cond q 0 (found j b rows)) (found j v rows) && bytes-before v b))))
           ≡ (not (is-blank v) && (q || (ltb (found j b rows) (found j v rows) || (eqb (found j b rows) (found j v rows) && bytes-before v b))))
-      go true g = refl
-      go false g = rw (g refl)
+      go true = refl
+      go false = refl
 
   pub next-by : (v b : Value) (q : Bool) → q ≡ better j rows v b → next-best j rows v b ≡ cond q v b
   unfolding next-best
@@ -60,16 +62,16 @@ blank-of [] e = refl
 blank-of (x ∷ v) e = let both = and-split (eqb x 0) (is-blank v) e in ap₂ _∷_ (eqb-true x 0 (both .0)) (blank-of v (both .1))
 
 -- what a column's most often found value, and how often it is found, say
-module _ (n t w : ℕ) (rows : Rows) (j : ℕ) (c : Counted) (m : Most-found n w j rows c) (long : w ≤ length (c .value)) where
+module _ (n t w : ℕ) (rows : Rows) (j : ℕ) (c : Counted) (m : Most-found n w j rows c) (long : length (c .value) ≡ value-room) (few : w ≤ value-room) where
   abbrev s : Settings
   s = settings n t w
 
   abbrev v : Value
-  v = take w (c .value)
+  v = most s j rows
 
   agreed-by : agreed-at s rows j ≡ cond (leb (n - t) (c .times)) v (blank s)
-  unfolding agreed-at blank settings value-size Times-found
-  agreed-by = rw (← m .value t) (go (is-blank v) refl)
+  unfolding agreed-least agreed-at blank settings value-size
+  agreed-by = rw (m t .times) (go (is-blank v) refl)
     where
       either : (p q : Bool) → v ≡ replicate w 0 → cond p v (replicate w 0) ≡ cond q v (replicate w 0)
       either true true e = refl
@@ -77,39 +79,58 @@ module _ (n t w : ℕ) (rows : Rows) (j : ℕ) (c : Counted) (m : Most-found n w
       either false true e = sym e
       either false false e = refl
 
-      go : (q : Bool) → is-blank v ≡ q → cond (leb (n - t) (found j v rows)) v (replicate w 0) ≡ cond (leb (n - t) (c .times)) v (replicate w 0)
-      go true e = either (leb (n - t) (found j v rows)) (leb (n - t) (c .times)) (blank-of v e ∙ ap (λ (k : ℕ). replicate k 0) (length-take-le w (c .value) long))
-      go false e = rw (m .times e)
+      go : (q : Bool) → is-blank v ≡ q →
+          cond (leb (n - t) (found j v rows)) v (replicate w 0) ≡ cond (leb (n - t) (cond q 0 (found j v rows))) v (replicate w 0)
+      go true e =
+          either (leb (n - t) (found j v rows)) (leb (n - t) 0)
+          (blank-of v e ∙ ap (λ (k : ℕ). replicate k 0) (stored-size w v (c .value) long few (m t .value)))
+      go false e = refl
 
-  pub agreed-often : n - t ≤ c .times → agreed-at s rows j ≡ v
-  agreed-often h = agreed-by ∙ rw (le-leb (n - t) (c .times) h)
+  pub agreed-often : n - t ≤ c .times → Stores-value w (agreed-at s rows j) (c .value)
+  agreed-often h = rw (agreed-by, le-leb (n - t) (c .times) h) (m t .value)
 
-  pub agreed-seldom : c .times < n - t → agreed-at s rows j ≡ blank s
-  agreed-seldom h = agreed-by ∙ rw (lt-leb (n - t) (c .times) h)
+  pub agreed-seldom : c .times < n - t → Stores-value w (agreed-at s rows j) (replicate value-room 0)
+  unfolding blank settings value-size
+  agreed-seldom h = rw (agreed-by, lt-leb (n - t) (c .times) h) (stores-blank w few)
 
   held-by : held-at s rows j ≡ held-of s v (c .times)
-  unfolding held-at held-of settings Times-found
-  held-by = rw (← m .value t) (go (is-blank v) refl)
+  unfolding held-at held-of sure-least likely-least settings
+  held-by = rw (m t .times) (go (is-blank v))
     where
       rated : ℕ → Held
       rated k = cond (leb (2 * t + 1) k) (held-as v 2) (cond (leb (t + 1) k) (held-as v 1) (held-as (blank s) 0))
 
-      go : (q : Bool) → is-blank v ≡ q → cond q (held-as (blank s) 0) (rated (found j v rows)) ≡ cond q (held-as (blank s) 0) (rated (c .times))
-      go true e = refl
-      go false e = ap rated (sym (m .times e))
+      go : (q : Bool) → cond q (held-as (blank s) 0) (rated (found j v rows)) ≡ cond q (held-as (blank s) 0) (rated (cond q 0 (found j v rows)))
+      go true = refl
+      go false = refl
 
-  pub held-blank : is-blank v ≡ true → held-at s rows j ≡ held-as (blank s) 0
+  -- by whether the value that stands in front of the array is blank
+  front : (q : Bool) → is-blank (take w (c .value)) ≡ q → is-blank v ≡ q
+  front q e = ap is-blank (sym (m t .value .reads)) ∙ e
+
+  rates-value : (k : ℕ) → held-at s rows j ≡ held-as v k → Rates w (held-at s rows j) (record { value = c .value; confidence = k })
+  unfolding held-as
+  rates-value k e = rw e (record { value = m t .value; confidence = refl })
+
+  rates-blank : held-at s rows j ≡ held-as (blank s) 0 → Rates w (held-at s rows j) (record { value = replicate value-room 0; confidence = 0 })
+  unfolding held-as blank settings value-size
+  rates-blank e = rw e (record { value = stores-blank w few; confidence = refl })
+
+  pub held-blank : is-blank (take w (c .value)) ≡ true → Rates w (held-at s rows j) (record { value = replicate value-room 0; confidence = 0 })
   unfolding held-of
-  held-blank e = held-by ∙ rw e
+  held-blank e = rates-blank (held-by ∙ rw (front true e))
 
-  pub held-often : is-blank v ≡ false → 2 * t < c .times → held-at s rows j ≡ held-as v 2
-  unfolding held-of settings
-  held-often e h = held-by ∙ rw (e, le-leb (2 * t + 1) (c .times) (omega arith))
+  pub held-often : is-blank (take w (c .value)) ≡ false → 2 * t < c .times → Rates w (held-at s rows j) (record { value = c .value; confidence = 2 })
+  unfolding held-of sure-least likely-least settings
+  held-often e h = rates-value 2 (held-by ∙ rw (front false e, le-leb (2 * t + 1) (c .times) (omega arith)))
 
-  pub held-some : is-blank v ≡ false → c .times ≤ 2 * t → t < c .times → held-at s rows j ≡ held-as v 1
-  unfolding held-of settings
-  held-some e h l = held-by ∙ rw (e, lt-leb (2 * t + 1) (c .times) (omega arith), le-leb (t + 1) (c .times) (omega arith))
+  pub held-some :
+      is-blank (take w (c .value)) ≡ false → c .times ≤ 2 * t → t < c .times → Rates w (held-at s rows j) (record { value = c .value; confidence = 1 })
+  unfolding held-of sure-least likely-least settings
+  held-some e h l =
+      rates-value 1 (held-by ∙ rw (front false e, lt-leb (2 * t + 1) (c .times) (omega arith), le-leb (t + 1) (c .times) (omega arith)))
 
-  pub held-seldom : is-blank v ≡ false → c .times ≤ t → held-at s rows j ≡ held-as (blank s) 0
-  unfolding held-of settings
-  held-seldom e h = held-by ∙ rw (e, lt-leb (2 * t + 1) (c .times) (omega arith), lt-leb (t + 1) (c .times) (omega arith))
+  pub held-seldom : is-blank (take w (c .value)) ≡ false → c .times ≤ t → Rates w (held-at s rows j) (record { value = replicate value-room 0; confidence = 0 })
+  unfolding held-of sure-least likely-least settings
+  held-seldom e h =
+      rates-blank (held-by ∙ rw (front false e, lt-leb (2 * t + 1) (c .times) (omega arith), lt-leb (t + 1) (c .times) (omega arith)))

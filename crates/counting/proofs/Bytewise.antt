@@ -10,7 +10,7 @@ use lib.ListN.{length, getD, take, drop}
 use lib.Seq.{drop-cons, drop-length, getD-take, length-take-le}
 use borrow.Author.Tests.{eq-eqb, ne-eqb, lt-ltb, le-ltb}
 use Rattle.code.specs.Vector.{same}
-use Rattle.counting.specs.Value.{bytes-before}
+use Rattle.grading.specs.Value.{bytes-before}
 
 -- what is left of a value of w bytes in front of an array, from byte p on
 abbrev pub left : (w : ℕ) → List ℕ → (p : ℕ) → List ℕ

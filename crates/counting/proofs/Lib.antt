@@ -1,7 +1,5 @@
-pub mod Bool
-pub mod Value
-pub mod Order
 pub mod Bytewise
+pub mod Padded
 pub mod Placed
 pub mod Planes
 pub mod Best

@@ -1,21 +1,25 @@
--- A loop that places values one after the other in an array: one more is placed where its bytes are written after the others,
--- and n of them are the array read as n values. Assumes nothing.
-use mathlib.Core.Path.{_≡_, sym, _∙_, ap, ap₂, subst}
-use mathlib.Core.List.{List, []}
+-- A loop that places values one after the other in an array of zeros: one more is placed where its bytes are written after the others,
+-- and the zeros behind it are kept. n of them are the array read as n values, and the array is their bytes with zeros behind them.
+-- Assumes nothing.
+use mathlib.Core.Path.{_≡_, refl, sym, _∙_, ap, ap₂, subst}
+use mathlib.Core.List.{List, [], _∷_}
 use Prim.Native.Nat.{ℕ, zero, suc, _+_, _*_, _≤_, _<_}
 use native.Mathlib.Omega.{arith}
 use native.Mathlib.Nat.{suc-mul}
-use lib.ListN.{length, getD, take, drop, length-drop}
+use lib.ListN.{length, getD, take, drop, replicate, length-drop}
 use lib.Seq.{getD-take, getD-drop, drop-drop, length-take-le, ext-getD}
 use borrow.Author.Count.{below-more}
 use Rattle.code.specs.Settings.{Settings, value-size}
-use Rattle.code.specs.Vector.{cut}
-use Rattle.code.specs.Entry.{values-in}
-use Rattle.code.specs.Array.{Filled, Written}
-use Rattle.code.proofs.Cut.{cut-length, value-fits}
-use Rattle.counting.specs.Value.{Value, entries}
-use Rattle.counting.specs.Held.{Held, held-as, held-in}
-use Rattle.counting.proofs.Value.{entries-length, entries-of, entries-alike}
+use Rattle.code.specs.Size.{most-columns, vector-room}
+use Rattle.code.specs.Vector.{cut, glued}
+use Rattle.code.specs.Entry.{values-in, in-front, padded}
+use Rattle.code.specs.Steps.Array.{Written}
+use Rattle.code.proofs.Cut.{cut-length, value-fits, next-value, in-front-cut}
+use Rattle.grading.specs.Value.{Value, entries}
+use Rattle.grading.specs.Held.{Held, held-as, held-in, held-values, held-confidences}
+use Rattle.counting.specs.Stored.{Stores, Stores-held}
+use Rattle.grading.proofs.Value.{entries-length, entries-of, entries-alike}
+use Rattle.counting.proofs.Padded.{zeros-at, padded-at}
 
 -- value j of an array of values
 pub cut-at : (n w : ℕ) (bs : List ℕ) (j : ℕ) → j < n → getD (cut n w bs) j [] ≡ take w (drop (j * w) bs)
@@ -38,14 +42,21 @@ cut-entries n w bs fits =
         ext-getD 0 (take w (drop (j * w) bs)) (entries w 0 _) (long ∙ sym (entries-length w 0 _))
         (λ p l. (let k : p < w = rw long at l in getD-take w (drop (j * w) bs) p 0 k ∙ getD-drop (j * w) bs p 0 ∙ sym (entries-of w p _ 0 k)))
 
--- the first values of an array of 256 bytes
+-- the first values of an array with room for a vector, zeros behind them
 pub record Placed (w many : ℕ) (f : ℕ → Value) (bytes : List ℕ) : Type 0 where
-  pub long : length bytes ≡ 256
+  pub long : length bytes ≡ vector-room
   pub sizes : (j : ℕ) → j < many → length (f j) ≡ w
   pub each : (j p : ℕ) → j < many → p < w → getD bytes (j * w + p) 0 ≡ getD (f j) p 0
+  pub rest : (i : ℕ) → many * w ≤ i → getD bytes i 0 ≡ 0
 
-pub placed-none : (w : ℕ) (f : ℕ → Value) (bytes : List ℕ) → length bytes ≡ 256 → Placed w 0 f bytes
-placed-none w f bytes e = record { long = e; sizes = λ j h. absurd (omega arith); each = λ j p h l. absurd (omega arith) }
+pub placed-none : (w : ℕ) (f : ℕ → Value) (bytes : List ℕ) → bytes ≡ replicate vector-room 0 → Placed w 0 f bytes
+placed-none w f bytes e =
+    record {
+      long = ap length e;
+      sizes = λ j h. absurd (omega arith);
+      each = λ j p h l. absurd (omega arith);
+      rest = λ i h. rw e (zeros-at vector-room i);
+    }
 
 pub placed-more :
     (w many : ℕ) (f : ℕ → Value) (v : Value) (bytes now : List ℕ) → Placed w many f bytes → length v ≡ w → v ≡ f many →
@@ -55,6 +66,7 @@ placed-more w many f v bytes now a size e written =
       long = b .long ∙ a .long;
       sizes = below-more (λ j. length (f j) ≡ w) many (a .sizes) (ap length (sym e) ∙ size);
       each = λ j p h l. below-more (λ i. getD now (i * w + p) 0 ≡ getD (f i) p 0) many (passed p l) (b .new p l ∙ ap (λ (u : Value). getD u p 0) e) j h;
+      rest = λ i h. (let next = next-value many w in b .after i (omega arith) ∙ a .rest i (omega arith));
     }
   where
     b : Written (many * w) w (λ p. getD v p 0) bytes now
@@ -64,7 +76,7 @@ placed-more w many f v bytes now a size e written =
     passed p l j d = b .before (j * w + p) (omega (arith, value-fits j many w d)) ∙ a .each j p d l
 
 -- all n of them
-module _ (w n : ℕ) (f : ℕ → Value) (bytes : List ℕ) (a : Placed w n f bytes) (fits : n * w ≤ 256) where
+module _ (w n : ℕ) (f : ℕ → Value) (bytes : List ℕ) (a : Placed w n f bytes) (fits : n * w ≤ vector-room) where
   pub placed-cut : cut n w bytes ≡ entries n 0 f
   placed-cut =
       cut-entries n w bytes (rw (a .long) fits)
@@ -73,14 +85,48 @@ module _ (w n : ℕ) (f : ℕ → Value) (bytes : List ℕ) (a : Placed w n f by
       ext-getD 0 (entries w 0 _) (f j) (entries-length w 0 _ ∙ sym (a .sizes j h))
       (λ p m. (let k : p < w = rw (entries-length w 0 (λ q. getD bytes (j * w + q) 0)) at m in entries-of w p _ 0 k ∙ a .each j p h k))))
 
-  pub placed-at : (j : ℕ) → j < n → getD (cut n w bytes) j [] ≡ f j
+  placed-at : (j : ℕ) → j < n → getD (cut n w bytes) j [] ≡ f j
   placed-at j h = ap (λ (vs : List Value). getD vs j []) placed-cut ∙ entries-of n j f [] h
 
+  placed-bytes : bytes ≡ padded vector-room (glued (entries n 0 f))
+  unfolding padded
+  placed-bytes =
+      in-front-cut n w (replicate vector-room 0) bytes (a .long) (rw (a .long) fits) (λ i h. a .rest i h ∙ sym (zeros-at vector-room i))
+      ∙ ap (λ (vs : List Value). in-front (glued vs) (replicate vector-room 0)) placed-cut
+
+pub placed-stores :
+    (s : Settings) (f : ℕ → Value) (bytes : List ℕ) → Placed (value-size s) (s .n) f bytes → s .n * value-size s ≤ vector-room →
+    Stores s (entries (s .n) 0 f) bytes
+unfolding values-in
+placed-stores s f bytes a fits =
+    record { bytes = placed-bytes (value-size s) (s .n) f bytes a fits; reads = placed-cut (value-size s) (s .n) f bytes a fits }
+
 -- values with their confidences
+pub held-values-entries : (n i : ℕ) (h : ℕ → Held) → held-values (entries n i h) ≡ entries n i (λ j. h j .value)
+unfolding held-values entries
+held-values-entries zero i h = refl
+held-values-entries (suc n) i h = ap (_∷_ (h i .value)) (held-values-entries n (suc i) h)
+
+pub held-confidences-entries : (n i : ℕ) (h : ℕ → Held) → held-confidences (entries n i h) ≡ entries n i (λ j. h j .confidence)
+unfolding held-confidences entries
+held-confidences-entries zero i h = refl
+held-confidences-entries (suc n) i h = ap (_∷_ (h i .confidence)) (held-confidences-entries n (suc i) h)
+
 pub placed-held :
     (s : Settings) (h : ℕ → Held) (values confidences : List ℕ) → Placed (value-size s) (s .n) (λ j. h j .value) values →
-    Filled 32 (s .n) (λ j. h j .confidence) confidences → s .n * value-size s ≤ 256 → held-in s values confidences ≡ entries (s .n) 0 h
+    confidences ≡ padded most-columns (entries (s .n) 0 (λ j. h j .confidence)) → s .n * value-size s ≤ vector-room →
+    Stores-held s (entries (s .n) 0 h) values confidences
 unfolding held-in held-as values-in
-placed-held s h values confidences a b fits =
-    entries-alike (s .n) 0 _ h
-    (λ j l. (let k : j < s .n = omega arith in ap₂ held-as (placed-at (value-size s) (s .n) _ values a fits j k) (b .new j k)))
+placed-held s h values confidences a e fits =
+    record {
+      value-bytes =
+          placed-bytes (value-size s) (s .n) _ values a fits
+          ∙ ap (λ (vs : List Value). padded vector-room (glued vs)) (sym (held-values-entries (s .n) 0 h));
+      confidence-bytes = e ∙ ap (padded most-columns) (sym (held-confidences-entries (s .n) 0 h));
+      reads =
+          entries-alike (s .n) 0 _ h
+          (λ j l. (let k : j < s .n = omega arith in ap₂ held-as (placed-at (value-size s) (s .n) _ values a fits j k) (confidence j k)));
+    }
+  where
+    confidence : (j : ℕ) → j < s .n → getD confidences j 0 ≡ h j .confidence
+    confidence j k = ap (λ (cs : List ℕ). getD cs j 0) e ∙ padded-at most-columns _ j ∙ entries-of (s .n) j _ 0 k

@@ -1,4 +1,5 @@
--- Tables as arrays: the values, rows and columns that they hold, entry by entry. Assumes nothing.
+-- Tables as arrays: the values, rows and columns that they hold, entry by entry; and a row put in plane by plane, which changes that
+-- row of the planes that a value's bytes reach, and nothing else. Assumes nothing.
 use mathlib.Core.Path.{_≡_, refl, sym, _∙_, ap}
 use mathlib.Core.Bool.{Bool, true, false, cond}
 use mathlib.Core.List.{List, [], _∷_}
@@ -6,24 +7,20 @@ use Prim.Native.Nat.{ℕ, _+_, _*_, _≤_, _<_}
 use native.Mathlib.Omega.{arith}
 use native.Mathlib.Numerals.{add-one}
 use lib.Dec.{eqb}
-use lib.ListN.{length, getD, take, drop, set, replicate, length-set, getD-replicate}
-use lib.Seq.{drop-cons, drop-length, getD-take, length-take-le, ext-getD, getD-set-same, getD-set-other}
+use lib.ListN.{length, getD, drop, set, replicate, length-set, getD-replicate}
+use lib.Seq.{drop-cons, drop-length, ext-getD, getD-set-same, getD-set-other}
 use borrow.Author.Count.{below-more}
 use borrow.Author.Tests.{eqb-true, eqb-false}
-use Rattle.code.specs.Vector.{same, cut}
-use Rattle.code.specs.Array.{Filled}
-use Rattle.counting.specs.Value.{Value, Rows, entries}
-use Rattle.counting.specs.Count.{found, better, most-from}
-use Rattle.counting.specs.Table.{Planes, byte-in, value-in, row-in, rows-in, Shaped, Row-put}
-use Rattle.counting.proofs.Value.{entries-length, entries-of, entries-alike}
+use Rattle.code.specs.Size.{most-columns, value-room}
+use Rattle.code.specs.Vector.{plane, same, cut}
+use Rattle.code.specs.Entry.{padded}
+use Rattle.code.proofs.Cut.{plane-cut, plane-cut-length}
+use Rattle.grading.specs.Value.{Value, Rows, entries}
+use Rattle.grading.specs.Count.{found, better, most-from}
+use Rattle.counting.specs.Steps.Table.{Planes, byte-in, value-in, row-in, rows-in, Shaped, Row-put}
+use Rattle.grading.proofs.Value.{entries-length, entries-of, entries-alike}
+use Rattle.counting.proofs.Padded.{padded-at, padded-length}
 use Rattle.counting.proofs.Placed.{cut-entries}
-
--- an array whose first bytes are given, as a list given entry by entry
-pub filled-entries : (size many : ℕ) (f : ℕ → ℕ) (bytes : List ℕ) → many ≤ size → Filled size many f bytes → take many bytes ≡ entries many 0 f
-filled-entries size many f bytes h b =
-    let long : length (take many bytes) ≡ many = length-take-le many bytes (rw (b .long) h) in
-    ext-getD 0 (take many bytes) (entries many 0 f) (long ∙ sym (entries-length many 0 f))
-    (λ i l. (let i-in : i < many = rw long at l in getD-take many bytes i 0 i-in ∙ b .new i i-in ∙ sym (entries-of many i f 0 i-in)))
 
 module _ (n w : ℕ) (x : Planes) where
   pub rows-length : length (rows-in n w x) ≡ n
@@ -63,51 +60,65 @@ module _ (n w : ℕ) (x : Planes) where
 
 -- one row of a plane put in
 module _ (x : Planes) (p i : ℕ) (row : List ℕ) (p-in : p < length x) (i-in : i < length (getD x p [])) where
-  pub byte-put : (k : ℕ) → byte-in (set x p (set (getD x p []) i row)) p i k ≡ getD row k 0
-  unfolding byte-in
-  byte-put k = rw (getD-set-same x p (set (getD x p []) i row) [] p-in, getD-set-same (getD x p []) i row [] i-in)
+  abbrev put : Planes
+  put = set x p (set (getD x p []) i row)
 
-  pub plane-kept : (q j k : ℕ) → (q ≡ p → ⊥) → byte-in (set x p (set (getD x p []) i row)) q j k ≡ byte-in x q j k
-  unfolding byte-in
-  plane-kept q j k d = rw (getD-set-other x p q (set (getD x p []) i row) [] d)
+  row-new : getD (getD put p []) i [] ≡ row
+  row-new = rw (getD-set-same x p (set (getD x p []) i row) [] p-in, getD-set-same (getD x p []) i row [] i-in)
 
-  pub row-kept : (q j k : ℕ) → (j ≡ i → ⊥) → byte-in (set x p (set (getD x p []) i row)) q j k ≡ byte-in x q j k
-  unfolding byte-in
-  row-kept q j k d = go (eqb q p) refl
+  plane-kept : (q : ℕ) → (q ≡ p → ⊥) → getD put q [] ≡ getD x q []
+  plane-kept q d = getD-set-other x p q (set (getD x p []) i row) [] d
+
+  row-kept : (q j : ℕ) → (j ≡ i → ⊥) → getD (getD put q []) j [] ≡ getD (getD x q []) j []
+  row-kept q j d = go (eqb q p) refl
     where
-      here : byte-in (set x p (set (getD x p []) i row)) p j k ≡ byte-in x p j k
+      here : getD (getD put p []) j [] ≡ getD (getD x p []) j []
       here = rw (getD-set-same x p (set (getD x p []) i row) [] p-in, getD-set-other (getD x p []) i j row [] d)
 
-      go : (b : Bool) → eqb q p ≡ b → byte-in (set x p (set (getD x p []) i row)) q j k ≡ byte-in x q j k
+      go : (b : Bool) → eqb q p ≡ b → getD (getD put q []) j [] ≡ getD (getD x q []) j []
       go true e = rw (eqb-true q p e) here
-      go false e = plane-kept q j k (eqb-false q p e)
+      go false e = ap (λ (plane : List (List ℕ)). getD plane j []) (plane-kept q (eqb-false q p e))
 
-  pub shape-put : Shaped x → Shaped (set x p (set (getD x p []) i row))
-  shape-put s = record { planes = length-set x p _ ∙ s .planes; rows = λ q h. go q h (eqb q p) refl }
+  shape-put : length row ≡ most-columns → Shaped x → Shaped put
+  shape-put long s =
+      record { planes = length-set x p _ ∙ s .planes; rows = λ q h. rows q h (eqb q p) refl; bytes = λ q j h l. bytes q j h l (eqb q p) refl (eqb j i) refl }
     where
-      go : (q : ℕ) → q < 8 → (b : Bool) → eqb q p ≡ b → length (getD (set x p (set (getD x p []) i row)) q []) ≡ 32
-      go q h true e =
+      rows : (q : ℕ) → q < value-room → (b : Bool) → eqb q p ≡ b → length (getD put q []) ≡ most-columns
+      rows q h true e =
           let here = eqb-true q p e in
           rw (here, getD-set-same x p (set (getD x p []) i row) [] p-in, length-set (getD x p []) i row) (s .rows p (rw (← here) h))
-      go q h false e = rw (getD-set-other x p q (set (getD x p []) i row) [] (eqb-false q p e)) (s .rows q h)
+      rows q h false e = rw (plane-kept q (eqb-false q p e)) (s .rows q h)
+
+      bytes : (q j : ℕ) → q < value-room → j < most-columns → (b : Bool) → eqb q p ≡ b → (d : Bool) → eqb j i ≡ d →
+          length (getD (getD put q []) j []) ≡ most-columns
+      bytes q j h l b e false f = rw (row-kept q j (eqb-false j i f)) (s .bytes q j h l)
+      bytes q j h l true e true f = rw (eqb-true q p e, eqb-true j i f, row-new) long
+      bytes q j h l false e true f = rw (plane-kept q (eqb-false q p e)) (s .bytes q j h l)
+
+-- a byte of each value, given entry by entry
+pub plane-entries : (n w p : ℕ) (row : List ℕ) → p < w → entries n 0 (λ k. getD row (k * w + p) 0) ≡ plane p (cut n w row)
+plane-entries n w p row h =
+    ext-getD 0 (entries n 0 _) (plane p (cut n w row)) (entries-length n 0 _ ∙ sym (plane-cut-length p n w row))
+    (λ k l. (let k-in : k < n = rw (entries-length n 0 (λ j. getD row (j * w + p) 0)) at l in entries-of n k _ 0 k-in ∙ sym (plane-cut n w p row k k-in h)))
 
 -- a row put in, plane by plane
 module _ (i n w : ℕ) (row : List ℕ) (x : Planes) where
   pub row-put-none : Shaped x → Row-put i n w 0 row x x
-  row-put-none s = record { shape = s; new = λ p k h l. absurd (omega arith); kept = λ p j k d. refl }
+  row-put-none s = record { shape = s; new = λ p h. absurd (omega arith); rows-kept = λ p j d. refl; planes-kept = λ p h. refl }
 
   pub row-put-more :
-      (p : ℕ) (plane : List ℕ) (now : Planes) → Row-put i n w p row x now → p < 8 → i < 32 → Filled 32 n (λ k. getD row (k * w + p) 0) plane →
-      Row-put i n w (p + 1) row x (set now p (set (getD now p []) i plane))
-  row-put-more p plane now a h l b =
+      (p : ℕ) (bytes : List ℕ) (now : Planes) → Row-put i n w p row x now → p < value-room → i < most-columns → n ≤ most-columns →
+      bytes ≡ padded most-columns (plane p (cut n w row)) → Row-put i n w (p + 1) row x (set now p (set (getD now p []) i bytes))
+  row-put-more p bytes now a h l m e =
       record {
-        shape = shape-put now p i plane p-in i-in (a .shape);
-        new = λ q k d e. below-more (λ r. byte-in z r i k ≡ getD row (k * w + r) 0) p (λ r f. plane-kept now p i plane p-in i-in r i k (omega arith) ∙ a .new r k f e) (byte-put now p i plane p-in i-in k ∙ b .new k e) q d;
-        kept = λ q j k d. row-kept now p i plane p-in i-in q j k d ∙ a .kept q j k d;
+        shape = shape-put now p i bytes p-in i-in (ap length e ∙ padded-length most-columns _ (rw (plane-cut-length p n w row) m)) (a .shape);
+        new = below-more (λ q. getD (getD z q []) i [] ≡ padded most-columns (plane q (cut n w row))) p passed (row-new now p i bytes p-in i-in ∙ e);
+        rows-kept = λ q j d. row-kept now p i bytes p-in i-in q j d ∙ a .rows-kept q j d;
+        planes-kept = λ q d. plane-kept now p i bytes p-in i-in q (omega arith) ∙ a .planes-kept q (omega arith);
       }
     where
       z : Planes
-      z = set now p (set (getD now p []) i plane)
+      z = set now p (set (getD now p []) i bytes)
 
       p-in : p < length now
       p-in = rw (a .shape .planes) h
@@ -115,16 +126,37 @@ module _ (i n w : ℕ) (row : List ℕ) (x : Planes) where
       i-in : i < length (getD now p [])
       i-in = rw (a .shape .rows p h) l
 
+      passed : (q : ℕ) → q < p → getD (getD z q []) i [] ≡ padded most-columns (plane q (cut n w row))
+      passed q d = ap (λ (rows : List (List ℕ)). getD rows i []) (plane-kept now p i bytes p-in i-in q (omega arith)) ∙ a .new q d
+
   module _ (now : Planes) (a : Row-put i n w w row x now) where
+    byte-new : (p k : ℕ) → p < w → k < n → byte-in now p i k ≡ getD row (k * w + p) 0
+    unfolding byte-in
+    byte-new p k h l = ap (λ (bs : List ℕ). getD bs k 0) (a .new p h) ∙ padded-at most-columns _ k ∙ plane-cut n w p row k l h
+
     pub row-put-row : n * w ≤ length row → row-in n w now i ≡ cut n w row
     unfolding row-in value-in
     row-put-row fits =
-        entries-alike n 0 _ _ (λ k l. entries-alike w 0 _ _ (λ p m. a .new p k (omega arith) (omega arith))) ∙ sym (cut-entries n w row fits)
+        entries-alike n 0 _ _ (λ k l. entries-alike w 0 _ _ (λ p m. byte-new p k (omega arith) (omega arith))) ∙ sym (cut-entries n w row fits)
 
     pub row-put-others : (j : ℕ) → (j ≡ i → ⊥) → row-in n w now j ≡ row-in n w x j
-    unfolding row-in value-in
-    row-put-others j d = entries-alike n 0 _ _ (λ k l. entries-alike w 0 _ _ (λ p m. a .kept p j k d))
+    unfolding row-in value-in byte-in
+    row-put-others j d = entries-alike n 0 _ _ (λ k l. entries-alike w 0 _ _ (λ p m. ap (λ (bs : List ℕ). getD bs k 0) (a .rows-kept p j d)))
 
 -- a table as it is made
-pub shape-zeros : Shaped (replicate 8 (replicate 32 (replicate 32 0)))
-shape-zeros = record { planes = refl; rows = λ p h. ap length (getD-replicate {A = List (List ℕ)} 8 p (replicate 32 (replicate 32 0)) [] h) }
+abbrev pub zero-plane : List (List ℕ)
+zero-plane = replicate most-columns (replicate most-columns 0)
+
+pub shape-zeros : Shaped (replicate value-room zero-plane)
+shape-zeros =
+    record {
+      planes = refl;
+      rows = λ p h. ap length (plane-of p h);
+      bytes = λ p i h l. ap (λ (rows : List (List ℕ)). length (getD rows i [])) (plane-of p h) ∙ ap length (row-of i l);
+    }
+  where
+    plane-of : (p : ℕ) → p < value-room → getD (replicate value-room zero-plane) p [] ≡ zero-plane
+    plane-of p h = getD-replicate {A = List (List ℕ)} value-room p zero-plane [] h
+
+    row-of : (i : ℕ) → i < most-columns → getD zero-plane i [] ≡ replicate most-columns 0
+    row-of i h = getD-replicate {A = List ℕ} most-columns i (replicate most-columns 0) [] h

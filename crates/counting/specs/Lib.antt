@@ -1,4 +1,2 @@
-pub mod Value
-pub mod Held
-pub mod Count
-pub mod Table
+pub mod Stored
+pub mod Steps

@@ -3,7 +3,7 @@ ghost use mathlib.Core.Path.{_≡_};
 ghost use Prim.Native.Nat.{_≤_};
 ghost use lib.ListN.{length};
 ghost use Rattle.code.specs.Entry.{in-front};
-ghost use Rattle.counting.specs.Value.{is-blank};
+ghost use Rattle.grading.specs.Value.{is-blank};
 
 // Whether a value is blank.
 pub fn is_blank(value: &[u8]) -> bool

@@ -4,17 +4,21 @@ ghost use mathlib.Core.Path.{_≡_};
 ghost use mathlib.Core.Bool.{true, false, cond};
 ghost use Prim.Native.Nat.{_≤_, _<_};
 ghost use lib.ListN.{take};
-ghost use Rattle.counting.specs.Count.{found};
-ghost use Rattle.counting.specs.Table.{value-in, rows-in, better-by, next-best, Times-found, Most-found};
+ghost use Rattle.code.specs.Size.{most-columns, value-room};
+ghost use Rattle.counting.specs.Stored.{Stores-value};
+ghost use Rattle.grading.specs.Count.{found};
+ghost use Rattle.counting.specs.Steps.Table.{value-in, rows-in, better-by, next-best, Counts, Most-found};
 use crate::values;
+use code::sizes::MOST_COLUMNS;
+use code::sizes::VALUE_ROOM;
 
-pub type Table = [[[u8; 32]; 32]; 8];
+pub type Table = [[[u8; MOST_COLUMNS]; MOST_COLUMNS]; VALUE_ROOM];
 
-fn value_at(table: &Table, w: usize, i: usize, k: usize) -> [u8; 8]
-    requires { ⌜ (w ≤ 8) × (i < 32) × (k < 32) ⌝ }
-    ensures { λ r. ⌜ take w r ≡ value-in w (now (table .entry)) i k ⌝ }
+fn value_at(table: &Table, w: usize, i: usize, k: usize) -> [u8; VALUE_ROOM]
+    requires { ⌜ (w ≤ value-room) × (i < most-columns) × (k < most-columns) ⌝ }
+    ensures { λ r. ⌜ Stores-value w (value-in w (now (table .entry)) i k) r ⌝ }
 {
-    let mut value = [0u8; 8];
+    let mut value = [0u8; VALUE_ROOM];
     let mut p = 0;
     while p < w {
         value[p] = table[p][i][k];
@@ -31,8 +35,8 @@ fn one(counts: bool) -> usize
 }
 
 // How often a value is found in column k.
-fn times_found(table: &Table, n: usize, w: usize, k: usize, value: [u8; 8]) -> usize
-    requires { ⌜ (n ≤ 32) × (w ≤ 8) × (k < n) ⌝ }
+fn times_found(table: &Table, n: usize, w: usize, k: usize, value: [u8; VALUE_ROOM]) -> usize
+    requires { ⌜ (n ≤ most-columns) × (w ≤ value-room) × (k < n) ⌝ }
     ensures { λ r. ⌜ r ≡ found k (take w value) (rows-in n w (now (table .entry))) ⌝ }
 {
     let mut times = 0;
@@ -45,15 +49,15 @@ fn times_found(table: &Table, n: usize, w: usize, k: usize, value: [u8; 8]) -> u
     times
 }
 
-// A value and how often it is found; the number says nothing of a blank.
+// A value and how often it is found; a blank is not counted, and its number is 0.
 pub struct Counted {
-    pub value: [u8; 8],
+    pub value: [u8; VALUE_ROOM],
     pub times: usize,
 }
 
 // Whether a value goes before the best so far.
 fn is_better(a: Counted, best: Counted, w: usize) -> bool
-    requires { ⌜ w ≤ 8 ⌝ }
+    requires { ⌜ w ≤ value-room ⌝ }
     ensures { λ r. ⌜ r ≡ better-by (a .times) (best .times) (take w (a .value)) (take w (best .value)) ⌝ }
 {
     let candidate = a.value;
@@ -75,8 +79,8 @@ fn is_better(a: Counted, best: Counted, w: usize) -> bool
 
 // The better of the value in row i, column k and the best so far. A value that is the best already is not counted again.
 fn next_best(table: &Table, n: usize, w: usize, k: usize, i: usize, best: Counted) -> Counted
-    requires { ⌜ (n ≤ 32) × (w ≤ 8) × (k < n) × (i < n) × Times-found k w (rows-in n w (now table)) best ⌝ }
-    ensures { λ r. ⌜ (take w (r .value) ≡ next-best k (rows-in n w (now (table .entry))) (value-in w (now (table .entry)) i k) (take w (best .value))) × Times-found k w (rows-in n w (now (table .entry))) r ⌝ }
+    requires { ⌜ (n ≤ most-columns) × (w ≤ value-room) × (k < n) × (i < n) × Counts k w (rows-in n w (now table)) (take w (best .value)) best ⌝ }
+    ensures { λ r. ⌜ Counts k w (rows-in n w (now (table .entry))) (next-best k (rows-in n w (now (table .entry))) (value-in w (now (table .entry)) i k) (take w (best .value))) r ⌝ }
 {
     let value = value_at(table, w, i, k);
     let best_value = best.value;
@@ -99,11 +103,11 @@ fn next_best(table: &Table, n: usize, w: usize, k: usize, i: usize, best: Counte
 
 // The most often found value in column k, blank left out, the smallest bytes first on a tie; blank where there is no other.
 pub fn most_found(table: &Table, n: usize, w: usize, k: usize) -> Counted
-    requires { ⌜ (n ≤ 32) × (w ≤ 8) × (k < n) ⌝ }
+    requires { ⌜ (n ≤ most-columns) × (w ≤ value-room) × (k < n) ⌝ }
     ensures { λ r. ⌜ Most-found n w k (rows-in n w (now (table .entry))) r ⌝ }
 {
     let mut best = Counted {
-        value: [0u8; 8],
+        value: [0u8; VALUE_ROOM],
         times: 0,
     };
     let mut i = 0;

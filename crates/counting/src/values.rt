@@ -2,19 +2,21 @@
 ghost use mathlib.Core.Path.{_≡_};
 ghost use Prim.Native.Nat.{_≤_};
 ghost use lib.ListN.{take};
+ghost use Rattle.code.specs.Size.{value-room};
 ghost use Rattle.code.specs.Vector.{same};
-ghost use Rattle.counting.specs.Value.{is-blank, bytes-before};
+ghost use Rattle.grading.specs.Value.{is-blank, bytes-before};
 use crate::lent;
+use code::sizes::VALUE_ROOM;
 
-pub fn is_blank(value: [u8; 8], w: usize) -> bool
-    requires { ⌜ w ≤ 8 ⌝ }
+pub fn is_blank(value: [u8; VALUE_ROOM], w: usize) -> bool
+    requires { ⌜ w ≤ value-room ⌝ }
     ensures { λ r. ⌜ r ≡ is-blank (take w value) ⌝ }
 {
     lent::is_blank(&value[..w])
 }
 
-pub fn is_same(a: [u8; 8], b: [u8; 8], w: usize) -> bool
-    requires { ⌜ w ≤ 8 ⌝ }
+pub fn is_same(a: [u8; VALUE_ROOM], b: [u8; VALUE_ROOM], w: usize) -> bool
+    requires { ⌜ w ≤ value-room ⌝ }
     ensures { λ r. ⌜ r ≡ same (take w a) (take w b) ⌝ }
 {
     let mut p = 0;
@@ -28,8 +30,8 @@ pub fn is_same(a: [u8; 8], b: [u8; 8], w: usize) -> bool
 }
 
 // Whether the bytes of a are the smaller ones.
-pub fn is_before(a: [u8; 8], b: [u8; 8], w: usize) -> bool
-    requires { ⌜ w ≤ 8 ⌝ }
+pub fn is_before(a: [u8; VALUE_ROOM], b: [u8; VALUE_ROOM], w: usize) -> bool
+    requires { ⌜ w ≤ value-room ⌝ }
     ensures { λ r. ⌜ r ≡ bytes-before (take w a) (take w b) ⌝ }
 {
     let mut p = 0;

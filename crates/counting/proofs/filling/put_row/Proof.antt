@@ -3,7 +3,7 @@ use mathlib.Core.Path.{_≡_, subst}
 use Prim.Native.Nat.{ℕ, _-_, _≤_}
 use native.Mathlib.Omega.{arith}
 use denote.Ref.{now}
-use Rattle.counting.specs.Table.{Row-put}
+use Rattle.counting.specs.Steps.Table.{Row-put}
 use Rattle.counting.proofs.Planes.{row-put-none, row-put-more}
 use Rattle.counting.proofs.filling.put_row.Statement.{statement}
 use Rattle.counting.proofs.filling.put_row.Tie as tie
@@ -39,7 +39,7 @@ loop-less : tie.Need-loop-less Inv-loop μ-loop
 loop-less c = omega arith
 
 loop-again : tie.Need-loop-again Inv-loop μ-loop
-loop-again c = (omega arith, row-put-more _ _ _ _ _ _ _ _ (c .before .before .loop .inv .1) (omega arith) (omega arith) (c .plane-of .ensures))
+loop-again c = (omega arith, row-put-more _ _ _ _ _ _ _ _ (c .before .before .loop .inv .1) (omega arith) (omega arith) (omega arith) (c .plane-of .ensures))
 
 returns : tie.Need-returns Inv-loop μ-loop
 returns c =

@@ -8,7 +8,7 @@ use native.Mathlib.Omega.{arith}
 use lib.ListN.{length, getD, drop}
 use lib.Seq.{drop-cons, drop-length}
 use borrow.Author.Tests.{ne-eqb}
-use Rattle.counting.specs.Value.{is-blank}
+use Rattle.grading.specs.Value.{is-blank}
 use Rattle.counting.proofs.lent.is_blank.Statement.{statement}
 use Rattle.counting.proofs.lent.is_blank.Tie as tie
 

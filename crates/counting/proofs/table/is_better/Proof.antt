@@ -5,8 +5,8 @@ use native.Mathlib.Omega.{arith}
 use lib.ListN.{take}
 use borrow.Author.Needs.{needs}
 use borrow.Author.Tests.{lt-ltb, le-ltb, eq-eqb, ne-eqb}
-use Rattle.counting.specs.Value.{is-blank}
-use Rattle.counting.specs.Table.{better-by}
+use Rattle.grading.specs.Value.{is-blank}
+use Rattle.counting.specs.Steps.Table.{better-by}
 use Rattle.counting.proofs.table.is_better.Statement.{statement}
 use Rattle.counting.proofs.table.is_better.Tie as tie
 

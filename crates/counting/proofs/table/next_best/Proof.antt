@@ -5,7 +5,7 @@ use mathlib.Core.Bool.{Bool, true, false, cond}
 use denote.Ref.{now}
 use lib.ListN.{take}
 use borrow.Author.Needs.{needs}
-use Rattle.counting.specs.Table.{rows-in, value-in, next-best, Times-found}
+use Rattle.counting.specs.Steps.Table.{rows-in, value-in, next-best}
 use Rattle.counting.proofs.Best.{next-same, next-blank, better-counted, next-by}
 use Rattle.counting.proofs.table.next_best.Statement.{statement}
 use Rattle.counting.proofs.table.next_best.Tie as tie
@@ -19,8 +19,8 @@ is-same-requires c κs = search needs
 returns : tie.Need-returns
 returns c =
     let d = c .before .before .before in
-    let e = rw (d .value-at .ensures) at (sym (c .before .is-same .ensures) ∙ c .if1 .taken) in
-    (sym (next-same _ _ _ _ e), d .before .pre .4)
+    let e = rw (d .value-at .ensures .reads) at (sym (c .before .is-same .ensures) ∙ c .if1 .taken) in
+    rw (next-same _ _ _ _ e) (d .before .pre .4)
 
 is-blank-requires : tie.Need-is-blank-requires
 is-blank-requires c κs = search needs
@@ -28,8 +28,8 @@ is-blank-requires c κs = search needs
 returns-2 : tie.Need-returns-2
 returns-2 c =
     let d = c .before .before .before .before .before in
-    let e = rw (d .value-at .ensures) at (sym (c .before .is-blank .ensures) ∙ c .if2 .taken) in
-    (sym (next-blank _ _ _ _ e), d .before .pre .4)
+    let e = rw (d .value-at .ensures .reads) at (sym (c .before .is-blank .ensures) ∙ c .if2 .taken) in
+    rw (next-blank _ _ _ _ e) (d .before .pre .4)
 
 times-found-requires : tie.Need-times-found-requires
 times-found-requires c κs = search needs
@@ -42,20 +42,23 @@ compared : (c : tie.After-is-better) (q : Bool) → c .is-better .result ≡ q �
     (let d = c .before .before .before .before .before .before .before in
     let a = d .before .args in
     next-best (a .k) (rows-in (a .n) (a .w) (now (a .table))) (value-in (a .w) (now (a .table)) (a .i) (a .k)) (take (a .w) (a .best .value))
-    ≡ cond q (take (a .w) (d .value-at .result)) (take (a .w) (a .best .value)))
-unfolding Times-found
+    ≡ cond q (value-in (a .w) (now (a .table)) (a .i) (a .k)) (take (a .w) (a .best .value)))
 compared c q e =
     let d = c .before .before .before .before .before .before .before in
     let a = d .before .args in
-    rw (← (d .value-at .ensures))
-    (next-by (a .k) _ _ _ q (sym e ∙ c .is-better .ensures ∙ better-counted (a .k) _ _ _ _ _ (c .before .times-found .ensures) (d .before .pre .4)))
+    rw (← (d .value-at .ensures .reads))
+    (next-by (a .k) _ _ _ q (sym e ∙ c .is-better .ensures ∙ better-counted (a .k) _ _ _ _ _ (c .before .times-found .ensures) (d .before .pre .4 .times)))
 
 returns-3 : tie.Need-returns-3
-unfolding Times-found
-returns-3 c = (sym (compared (c .before) true (c .if3 .taken)), λ e. c .before .before .times-found .ensures)
+returns-3 c =
+    let b = c .before .before in
+    let d = b .before .before .before .before .before .before in
+    let blank = rw (d .value-at .ensures .reads) at (sym (b .before .before .is-blank .ensures) ∙ b .before .if2 .left) in
+    let times = rw (d .value-at .ensures .reads) at (b .times-found .ensures) in
+    rw (compared (c .before) true (c .if3 .taken)) (record { value = d .value-at .ensures; times = rw blank times })
 
 returns-4 : tie.Need-returns-4
-returns-4 c = (sym (compared (c .before) false (c .if3 .left)), c .before .before .before .before .before .before .before .before .before .pre .4)
+returns-4 c = rw (compared (c .before) false (c .if3 .left)) (c .before .before .before .before .before .before .before .before .before .pre .4)
 
 pub next-best-spec : {M : Type 1} → statement M
 next-best-spec =

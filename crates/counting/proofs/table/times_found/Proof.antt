@@ -5,8 +5,8 @@ use Prim.Native.Nat.{_+_, _-_, _≤_}
 use native.Mathlib.Omega.{arith}
 use denote.Ref.{now}
 use lib.ListN.{take, drop}
-use Rattle.counting.specs.Count.{found}
-use Rattle.counting.specs.Table.{rows-in}
+use Rattle.grading.specs.Count.{found}
+use Rattle.counting.specs.Steps.Table.{rows-in}
 use Rattle.counting.proofs.Planes.{rows-none, found-on}
 use Rattle.counting.proofs.table.times_found.Statement.{statement}
 use Rattle.counting.proofs.table.times_found.Tie as tie
@@ -46,7 +46,7 @@ loop-again c =
     let a = c .before .before .before .before .before .args in
     let back : l .i - 1 + 1 ≡ l .i = omega arith in
     let e = rw back at (found-on (a .n) (a .w) (now (a .table)) (a .k) (take (a .w) (a .value)) (l .i - 1) (omega arith) (omega arith)) in
-    let one = rw (c .before .is-same .ensures, c .before .before .value-at .ensures) at (c .one .ensures .0) in
+    let one = rw (c .before .is-same .ensures, c .before .before .value-at .ensures .reads) at (c .one .ensures .0) in
     (omega arith, omega arith, omega (arith, e, one, l .inv .2))
 
 returns : tie.Need-returns Inv-loop μ-loop

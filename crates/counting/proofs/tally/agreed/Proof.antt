@@ -1,4 +1,4 @@
--- `agreed` meets its contract: the values of Y one after the other. Assumes nothing.
+-- `agreed` meets its contract: the values of Y one after the other, placed in zeros. Assumes nothing.
 use mathlib.Core.Path.{_≡_, refl, sym}
 use Prim.Native.Nat.{_-_, _≤_}
 use native.Mathlib.Omega.{arith}
@@ -6,11 +6,11 @@ use lib.ListN.{length, take}
 use lib.Seq.{length-take-le}
 use borrow.Author.Needs.{needs}
 use Rattle.code.specs.Settings.{settings, value-size}
-use Rattle.code.specs.Entry.{values-in}
+use Rattle.code.specs.Size.{value-room}
 use Rattle.code.proofs.Cut.{values-fit}
-use Rattle.counting.specs.Count.{agreed-at, agreed-vector}
-use Rattle.counting.specs.Table.{rows-in}
-use Rattle.counting.proofs.Placed.{Placed, placed-none, placed-more, placed-cut}
+use Rattle.grading.specs.Count.{agreed-at, agreed-vector}
+use Rattle.counting.specs.Steps.Table.{rows-in}
+use Rattle.counting.proofs.Placed.{Placed, placed-none, placed-more, placed-stores}
 use Rattle.counting.proofs.tally.agreed.Statement.{statement}
 use Rattle.counting.proofs.tally.agreed.Tie as tie
 
@@ -32,7 +32,7 @@ array-share-prefix-value c = omega arith
 -- the value's bytes
 size : (c : tie.After-agreed-at Inv-loop μ-loop) →
     length (take (c .before .before .before .before .args .w) (c .agreed-at .result)) ≡ c .before .before .before .before .args .w
-size c = let long : length (c .agreed-at .result) ≡ 8 = search needs in length-take-le _ (c .agreed-at .result) (omega arith)
+size c = let long : length (c .agreed-at .result) ≡ value-room = search needs in length-take-le _ (c .agreed-at .result) (omega arith)
 
 slice-aggregate-put-value : tie.Need-slice-aggregate-put-value Inv-loop μ-loop
 slice-aggregate-put-value c = sym (size (c .before .before))
@@ -49,15 +49,15 @@ loop-less c = omega arith
 loop-again : tie.Need-loop-again Inv-loop μ-loop
 loop-again c =
     let d = c .before .before .before in
-    (omega arith, placed-more _ _ _ _ _ _ (d .before .before .before .loop .inv .1) (size d) (d .agreed-at .ensures) (c .put-value .ensures))
+    (omega arith, placed-more _ _ _ _ _ _ (d .before .before .before .loop .inv .1) (size d) (d .agreed-at .ensures .reads) (c .put-value .ensures))
 
 returns : tie.Need-returns Inv-loop μ-loop
-unfolding values-in agreed-vector settings value-size
+unfolding agreed-vector settings value-size
 returns c =
     let a = c .before .before .args in
     let l = c .before .loop in
     let e : l .k ≡ a .n = omega arith in
-    placed-cut (a .w) (a .n) _ (l .vector) (rw e at (l .inv .1)) (values-fit (a .n) (a .w) (omega arith) (omega arith))
+    placed-stores (settings (a .n) (a .t) (a .w)) _ (l .vector) (rw e at (l .inv .1)) (values-fit (a .n) (a .w) (omega arith) (omega arith))
 
 pub agreed-spec : {M : Type 1} → statement M
 agreed-spec =

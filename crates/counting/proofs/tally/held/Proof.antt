@@ -1,17 +1,18 @@
--- `held` meets its contract: the values one after the other, and their confidences. Assumes nothing.
-use mathlib.Core.Path.{_≡_, refl, sym, ap}
+-- `held` meets its contract: the values one after the other, and their confidences, placed in zeros. Assumes nothing.
+use mathlib.Core.Path.{_≡_, refl, sym}
 use Prim.Native.Nat.{_-_, _≤_}
 use native.Mathlib.Omega.{arith}
 use lib.ListN.{length, take}
 use lib.Seq.{length-take-le}
 use borrow.Author.Needs.{needs}
 use Rattle.code.specs.Settings.{settings, value-size}
-use Rattle.code.specs.Array.{Filled}
+use Rattle.code.specs.Size.{most-columns, value-room}
+use Rattle.code.specs.Entry.{in-front, padded}
 use Rattle.code.proofs.Cut.{values-fit}
-use Rattle.code.proofs.Written.{filled-none, filled-more}
-use Rattle.counting.specs.Held.{Held, held-as}
-use Rattle.counting.specs.Count.{held-at, held-list}
-use Rattle.counting.specs.Table.{rows-in}
+use Rattle.grading.specs.Value.{entries}
+use Rattle.grading.specs.Count.{held-at, held-list}
+use Rattle.counting.specs.Steps.Table.{rows-in}
+use Rattle.counting.proofs.Padded.{padded-entry}
 use Rattle.counting.proofs.Placed.{Placed, placed-none, placed-more, placed-held}
 use Rattle.counting.proofs.tally.held.Statement.{statement}
 use Rattle.counting.proofs.tally.held.Tie as tie
@@ -19,24 +20,25 @@ use Rattle.counting.proofs.tally.held.Tie as tie
 abbrev Inv-loop : tie.InvT-loop
 Inv-loop n t w table values₀ confidences₀ k₀ values confidences k =
     (k ≤ n) × Placed w k (λ j. held-at (settings n t w) (rows-in n w table) j .value) values
-    × Filled 32 k (λ j. held-at (settings n t w) (rows-in n w table) j .confidence) confidences
+    × (confidences ≡ padded most-columns (entries k 0 (λ j. held-at (settings n t w) (rows-in n w table) j .confidence)))
 
 abbrev μ-loop : tie.MeasureT-loop
 μ-loop n t w table values₀ confidences₀ k₀ values confidences k = n - k
 
 loop-holds : tie.Need-loop-holds Inv-loop μ-loop
-loop-holds c = (omega arith, placed-none _ _ _ refl, filled-none _ _ _ refl)
+unfolding padded in-front entries
+loop-holds c = (omega arith, placed-none _ _ _ refl, refl)
 
 held-at-requires : tie.Need-held-at-requires Inv-loop μ-loop
 held-at-requires c κs = omega arith
 
 array-share-prefix-value : tie.Need-array-share-prefix-value Inv-loop μ-loop
-array-share-prefix-value c = let long : length (c .before .before .held-at .result .value) ≡ 8 = search needs in omega arith
+array-share-prefix-value c = let long : length (c .before .before .held-at .result .value) ≡ value-room = search needs in omega arith
 
 -- the value's bytes
 size : (c : tie.After-held-at Inv-loop μ-loop) →
     length (take (c .before .before .before .before .args .w) (c .held-at .result .value)) ≡ c .before .before .before .before .args .w
-size c = let long : length (c .held-at .result .value) ≡ 8 = search needs in length-take-le _ (c .held-at .result .value) (omega arith)
+size c = let long : length (c .held-at .result .value) ≡ value-room = search needs in length-take-le _ (c .held-at .result .value) (omega arith)
 
 slice-aggregate-put-value : tie.Need-slice-aggregate-put-value Inv-loop μ-loop
 slice-aggregate-put-value c = sym (size (c .before .before .before))
@@ -55,13 +57,12 @@ loop-less : tie.Need-loop-less Inv-loop μ-loop
 loop-less c = omega arith
 
 loop-again : tie.Need-loop-again Inv-loop μ-loop
-unfolding held-as
 loop-again c =
     let d = c .before .before .before .before in
     let l = d .before .before .before .loop in (
       omega arith,
-      placed-more _ _ _ _ _ _ (l .inv .1) (size d) (ap (λ (h : Held). h .value) (d .held-at .ensures)) (c .put-value .ensures),
-      filled-more 32 _ _ _ _ (l .inv .2) (omega arith) (ap (λ (h : Held). h .confidence) (d .held-at .ensures)),
+      placed-more _ _ _ _ _ _ (l .inv .1) (size d) (d .held-at .ensures .value .reads) (c .put-value .ensures),
+      rw (l .inv .2) (padded-entry most-columns (l .k) _ _ (omega arith) (d .held-at .ensures .confidence)),
     )
 
 returns : tie.Need-returns Inv-loop μ-loop

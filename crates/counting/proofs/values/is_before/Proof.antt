@@ -4,7 +4,7 @@ use Prim.Native.Nat.{_-_, _≤_}
 use native.Mathlib.Omega.{arith}
 use lib.ListN.{length, take}
 use borrow.Author.Needs.{needs}
-use Rattle.counting.specs.Value.{bytes-before}
+use Rattle.grading.specs.Value.{bytes-before}
 use Rattle.counting.proofs.Bytewise.{left, before-on, before-less, before-more, before-end}
 use Rattle.counting.proofs.values.is_before.Statement.{statement}
 use Rattle.counting.proofs.values.is_before.Tie as tie

@@ -4,6 +4,7 @@ use native.Mathlib.Omega.{arith}
 use lib.ListN.{length}
 use lib.Seq.{length-take-le}
 use borrow.Author.Needs.{needs}
+use Rattle.code.specs.Size.{value-room}
 use Rattle.counting.proofs.values.is_blank.Statement.{statement}
 use Rattle.counting.proofs.values.is_blank.Tie as tie
 
@@ -12,7 +13,7 @@ array-share-prefix-value c = search needs
 
 slice-aggregate-is-blank : tie.Need-slice-aggregate-is-blank
 slice-aggregate-is-blank c =
-    let long : length (c .before .args .t1) ≡ 8 = search needs in sym (length-take-le _ (c .before .args .t1) (omega arith))
+    let long : length (c .before .args .t1) ≡ value-room = search needs in sym (length-take-le _ (c .before .args .t1) (omega arith))
 
 is-blank-requires : tie.Need-is-blank-requires
 is-blank-requires c κs = search needs

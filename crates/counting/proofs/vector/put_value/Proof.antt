@@ -4,7 +4,8 @@ use Prim.Native.Nat.{ℕ, _+_, _*_, _-_, _≤_, _<_}
 use native.Mathlib.Omega.{arith}
 use denote.Ref.{now}
 use lib.ListN.{length, getD}
-use Rattle.code.specs.Array.{Written}
+use Rattle.code.specs.Size.{most-columns, value-room, vector-room}
+use Rattle.code.specs.Steps.Array.{Written}
 use Rattle.code.proofs.Cut.{value-fits, values-fit}
 use Rattle.code.proofs.Written.{written-none, written-more, written-to}
 use Rattle.counting.proofs.vector.put_value.Statement.{statement}
@@ -18,8 +19,8 @@ abbrev μ-loop : tie.MeasureT-loop
 μ-loop vector₀ k value at p₀ vector p = length value - p
 
 -- the value's place is in the array
-room : (k size : ℕ) → k < 32 → size ≤ 8 → k * size + size ≤ 256
-room k size h l = omega (arith, value-fits k 32 size h, values-fit 32 size (omega arith) l)
+room : (k size : ℕ) → k < most-columns → size ≤ value-room → k * size + size ≤ vector-room
+room k size h l = omega (arith, value-fits k most-columns size h, values-fit most-columns size (omega arith) l)
 
 mul-at : tie.Need-mul-at Inv-loop μ-loop
 mul-at c = omega (arith, room (c .args .k) (length (now (c .args .value))) (c .pre .0) (c .pre .1))

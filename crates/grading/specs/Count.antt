@@ -6,8 +6,8 @@ use lib.Dec.{ltb, leb, eqb}
 use lib.ListN.{getD}
 use Rattle.code.specs.Settings.{Settings}
 use Rattle.code.specs.Vector.{same}
-use Rattle.counting.specs.Value.{Value, Vector, Rows, blank, is-blank, bytes-before, entries}
-use Rattle.counting.specs.Held.{Held, held-as}
+use Rattle.grading.specs.Value.{Value, Vector, Rows, blank, is-blank, bytes-before, entries}
+use Rattle.grading.specs.Held.{Held, held-as}
 
 -- how often a value is found in a column of a table; places in a row count from 0, so that place j is column j + 1's
 unfoldable pub found : (j : ℕ) → Value → Rows → ℕ
@@ -30,9 +30,21 @@ most-from j all (row ∷ rows) b = most-from j all rows (cond (better j all (get
 unfoldable pub most : Settings → (j : ℕ) → Rows → Value
 most s j rows = most-from j rows rows (blank s)
 
--- Y at a place: the value found at least n − t times, else blank; that is more than half of the rows, so it is m
+-- how often a value of Y is found at least; that is more than half of the rows
+unfoldable pub agreed-least : Settings → ℕ
+agreed-least s = s .n - s .t
+
+-- how often a value held at confidence 2 is found at least
+unfoldable pub sure-least : Settings → ℕ
+sure-least s = 2 * s .t + 1
+
+-- how often one held at confidence 1 is
+unfoldable pub likely-least : Settings → ℕ
+likely-least s = s .t + 1
+
+-- Y at a place: the value found at least n − t times, which is then m, else blank
 unfoldable pub agreed-at : Settings → Rows → (j : ℕ) → Value
-agreed-at s rows j = let m = most s j rows in cond (leb (s .n - s .t) (found j m rows)) m (blank s)
+agreed-at s rows j = let m = most s j rows in cond (leb (agreed-least s) (found j m rows)) m (blank s)
 
 -- Y
 unfoldable pub agreed-vector : Settings → Rows → Vector
@@ -42,7 +54,7 @@ agreed-vector s rows = entries (s .n) 0 (agreed-at s rows)
 unfoldable pub held-of : Settings → Value → (times : ℕ) → Held
 held-of s v c =
     cond (is-blank v) (held-as (blank s) 0)
-    (cond (leb (2 * s .t + 1) c) (held-as v 2) (cond (leb (s .t + 1) c) (held-as v 1) (held-as (blank s) 0)))
+    (cond (leb (sure-least s) c) (held-as v 2) (cond (leb (likely-least s) c) (held-as v 1) (held-as (blank s) 0)))
 
 -- value and confidence at a place of the last table
 unfoldable pub held-at : Settings → Rows → (j : ℕ) → Held

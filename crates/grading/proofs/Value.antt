@@ -2,15 +2,15 @@
 -- Each by induction. Assumes nothing.
 use mathlib.Core.Path.{_≡_, refl, sym, _∙_, ap, ap₂}
 use mathlib.Core.Bool.{true, false, _&&_}
-use mathlib.Core.List.{[], _∷_}
+use mathlib.Core.List.{[], _∷_, _++_}
 use Prim.Native.Nat.{ℕ, zero, suc, _+_, _<_, _≤_}
 use native.Mathlib.Omega.{arith}
 use lib.ListN.{length, getD, take, replicate, length-replicate}
 use borrow.Author.Tests.{eq-eqb}
 use Rattle.code.specs.Settings.{Settings, value-size}
 use Rattle.code.specs.Vector.{same}
-use Rattle.counting.specs.Value.{Value, blank, is-blank, entries}
-use Rattle.counting.proofs.Bool.{true-not-false}
+use Rattle.grading.specs.Value.{Value, blank, is-blank, entries}
+use Rattle.grading.proofs.Bool.{true-not-false}
 
 pub same-self : (a : Value) → same a a ≡ true
 unfolding same
@@ -66,3 +66,14 @@ pub entries-next : {A : Type 0} (n i : ℕ) (f : ℕ → A) → entries n (i + 1
 unfolding entries
 entries-next zero i f = refl
 entries-next (suc n) i f = ap (_∷_ (f (i + 1))) (ap (λ (k : ℕ). entries n k f) (let e : suc (i + 1) ≡ suc i + 1 = omega arith in e) ∙ entries-next n (suc i) f)
+
+entries-last : {A : Type 0} (n i : ℕ) (f : ℕ → A) → entries n i f ++ (f (i + n) ∷ []) ≡ entries (suc n) i f
+unfolding entries
+entries-last zero i f = ap (λ (k : ℕ). f k ∷ []) (let e : i + 0 ≡ i = omega arith in e)
+entries-last (suc n) i f =
+    ap (_∷_ (f i)) (ap (λ (k : ℕ). entries n (suc i) f ++ (f k ∷ [])) (let e : i + suc n ≡ suc i + n = omega arith in e) ∙ entries-last n (suc i) f)
+
+pub entries-more : {A : Type 0} (n : ℕ) (f : ℕ → A) → entries n 0 f ++ (f n ∷ []) ≡ entries (n + 1) 0 f
+entries-more n f =
+    ap (λ (k : ℕ). entries n 0 f ++ (f k ∷ [])) (let e : n ≡ 0 + n = omega arith in e) ∙ entries-last n 0 f
+    ∙ ap (λ (k : ℕ). entries k 0 f) (let e : suc n ≡ n + 1 = omega arith in e)

@@ -1,0 +1,7 @@
+pub mod Bool
+pub mod Value
+pub mod Order
+pub mod Count
+pub mod Most
+pub mod Grade
+pub mod Agreement

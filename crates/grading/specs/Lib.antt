@@ -1,0 +1,4 @@
+pub mod Value
+pub mod Held
+pub mod Count
+pub mod Promise
