@@ -11,12 +11,12 @@ use lib.Dec.{eqb}
 use lib.ListN.{length, getD, set, replicate, length-drop}
 use lib.Seq.{getD-take, getD-set-same}
 use Rattle.code.specs.Settings.{Settings}
-use Rattle.column.specs.Frame.{command, operand-size, frame-size, header, command-round, round-in, sender-in, run-in, operand-in}
-use Rattle.column.specs.Record.{Rec, no-frames, taken-at, is-taken, with-frame, with-refused}
-use Rattle.column.specs.Refusal.{take-refusal, counts-up}
+use Rattle.record.specs.Frame.{command, operand-size, frame-size, header, command-round, round-in, sender-in, run-in, operand-in}
+use Rattle.record.specs.Record.{Who, Found, Rec, no-frames, taken-at, is-taken, with-frame, with-refused}
+use Rattle.record.specs.Refusal.{line, record-refusal, repeated-refusal, take-refusal, counts-up}
 use Rattle.column.specs.Call.{after-take, Operand, Frame-of}
 use Rattle.column.specs.Promise.{Frame-taken}
-use Rattle.column.proofs.Refusal.{Fits, record-number, take-refusal-last}
+use Rattle.record.proofs.Refusal.{Fits, record-number, take-refusal-last}
 
 -- commands
 pub command-round-of : (m : ℕ) → 1 ≤ m → m ≤ 3 → command-round (command m) ≡ m
@@ -28,25 +28,28 @@ command-round-of (suc (suc (suc zero))) a b = refl
 command-round-of (suc (suc (suc (suc m)))) a b = absurd (omega arith)
 
 -- only the rounds 1, 2 and 3 have a frame
-pub operand-round : (m : ℕ) (z : Rec) (x : List ℕ) → Operand m z x → (1 ≤ m) × (m ≤ 3)
+pub operand-round : (m : ℕ) (w : Who) (f : Found) (x : List ℕ) → Operand m w f x → (1 ≤ m) × (m ≤ 3)
 unfolding Operand
-operand-round zero z x e = absurd e
-operand-round (suc zero) z x e = (omega arith, omega arith)
-operand-round (suc (suc zero)) z x e = (omega arith, omega arith)
-operand-round (suc (suc (suc zero))) z x e = (omega arith, omega arith)
-operand-round (suc (suc (suc (suc m)))) z x e = absurd e
+operand-round zero w f x e = absurd e
+operand-round (suc zero) w f x e = (omega arith, omega arith)
+operand-round (suc (suc zero)) w f x e = (omega arith, omega arith)
+operand-round (suc (suc (suc zero))) w f x e = (omega arith, omega arith)
+operand-round (suc (suc (suc (suc m)))) w f x e = absurd e
 
 -- a frame read again
-pub frame-operand : (z : Rec) (bs : List ℕ) → Frame-of z bs → Operand (z .round) z (operand-in bs)
+pub frame-operand : (z : Rec) (bs : List ℕ) → Frame-of z bs → Operand (z .round) (z .who) (z .found) (operand-in bs)
 unfolding Frame-of
 frame-operand z bs f = f .2
 
-pub frame-fits-its-round : (z : Rec) (bs : List ℕ) → Frame-of z bs → Fits (z .settings) (z .run) (z .round) (z .number) bs
+pub frame-round : (z : Rec) (bs : List ℕ) → Frame-of z bs → (1 ≤ z .round) × (z .round ≤ 3)
+frame-round z bs f = operand-round (z .round) (z .who) (z .found) (operand-in bs) (frame-operand z bs f)
+
+pub frame-fits-its-round : (z : Rec) (bs : List ℕ) → Frame-of z bs → Fits (z .who .settings) (z .who .run) (z .round) (z .who .number) bs
 unfolding Frame-of header round-in sender-in run-in
 frame-fits-its-round z bs f =
-    let inside = operand-round (z .round) z (operand-in bs) (f .2) in
-    let high : getD bs 2 0 ≡ z .run / 256 = at 2 (omega arith) in
-    let low : getD bs 3 0 ≡ z .run % 256 = at 3 (omega arith) in
+    let inside = frame-round z bs f in
+    let high : getD bs 2 0 ≡ z .who .run / 256 = at 2 (omega arith) in
+    let low : getD bs 3 0 ≡ z .who .run % 256 = at 3 (omega arith) in
     record {
       round = ap command-round (at 0 (omega arith)) ∙ command-round-of (z .round) (inside .0) (inside .1);
       size = f .1;
@@ -54,7 +57,7 @@ frame-fits-its-round z bs f =
       same-run = omega arith;
     }
   where
-    at : (i : ℕ) → i < 4 → getD bs i 0 ≡ getD (command (z .round) ∷ z .number ∷ (z .run / 256) ∷ (z .run % 256) ∷ []) i 0
+    at : (i : ℕ) → i < 4 → getD bs i 0 ≡ getD (command (z .round) ∷ z .who .number ∷ (z .who .run / 256) ∷ (z .who .run % 256) ∷ []) i 0
     at i h = sym (getD-take 4 bs i 0 h) ∙ ap (λ (l : List ℕ). getD l i 0) (f .0)
 
 pub fits-alike : {s u : Settings} {a b m p k l : ℕ} {bs : List ℕ} → s ≡ u → a ≡ b → m ≡ p → k ≡ l → Fits s a m k bs → Fits u b p l bs
@@ -123,22 +126,26 @@ pub after-take-taken : (r : Rec) (k : ℕ) (bs : List ℕ) → take-refusal r k 
 unfolding after-take
 after-take-taken r k bs e = ap (λ (n : ℕ). cond (eqb n 0) (with-frame r k (operand-in bs)) (cond (counts-up n) (with-refused r k) r)) e
 
+-- a frame of a round, in a slot that holds none, is not turned down
+pub frame-fresh :
+    (r z : Rec) (bs : List ℕ) → record-refusal (r .who) ≡ 0 → record-refusal (z .who) ≡ 0 → r .who .settings ≡ z .who .settings →
+    r .who .run ≡ z .who .run → r .round ≡ z .round → Frame-of z bs → (r .who .number ≡ z .who .number → ⊥) →
+    taken-at (r .frames) (z .who .number) ≡ none → take-refusal r (z .who .number) bs ≡ 0
+unfolding is-taken repeated-refusal line
+frame-fresh r z bs er ez es eu em f other empty =
+    let inside = record-number (z .who) ez in
+    let round = frame-round z bs f in
+    take-refusal-last r (z .who .number) bs er (omega (arith, round .0)) (omega (arith, round .1)) (inside .0) (rw es (inside .1)) (λ e. other (sym e))
+    (fits-alike (sym es) (sym eu) (sym em) refl (frame-fits-its-round z bs f))
+    ∙ ap (λ (x : Option (List ℕ)). repeated-refusal (is-taken x)) empty
+
 pub frame-taken : Frame-taken
-unfolding Frame-taken is-taken
-frame-taken r z bs er ez es eu small em f other long empty =
-    (fresh, ap (λ (q : Rec). taken-at (q .frames) (z .number)) (after-take-taken r (z .number) bs fresh) ∙ taken-here r (z .number) (operand-in bs) (inside .0) (rw long high))
-  where
-    inside : (1 ≤ z .number) × (z .number ≤ z .settings .n)
-    inside = record-number z ez
-
-    round : (1 ≤ z .round) × (z .round ≤ 3)
-    round = operand-round (z .round) z (operand-in bs) (frame-operand z bs f)
-
-    high : z .number ≤ r .settings .n
-    high = rw es (inside .1)
-
-    fresh : take-refusal r (z .number) bs ≡ 0
-    fresh =
-        take-refusal-last r (z .number) bs er (omega (arith, round .0)) (omega (arith, round .1)) (inside .0) high (λ e. other (sym e))
-        (fits-alike (sym es) (sym eu) (sym em) refl (frame-fits-its-round z bs f))
-        ∙ ap (λ (x : Option (List ℕ)). cond (is-taken x) 15 0) empty
+unfolding Frame-taken
+frame-taken r z bs er ez es eu em f other long empty =
+    let fresh = frame-fresh r z bs er ez es eu em f other empty in
+    let inside = record-number (z .who) ez in
+    let high : z .who .number ≤ r .who .settings .n = rw es (inside .1) in (
+      fresh,
+      ap (λ (q : Rec). taken-at (q .frames) (z .who .number)) (after-take-taken r (z .who .number) bs fresh)
+          ∙ taken-here r (z .who .number) (operand-in bs) (inside .0) (rw long high),
+    )

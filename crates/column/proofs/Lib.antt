@@ -1,11 +1,6 @@
-pub mod Refusal
 pub mod Frame
-pub mod View
-pub mod Lines
-pub mod Size
-pub mod Front
+pub mod Taken
 pub mod Sent
-pub mod SenderRow
-pub mod AfterRound
-pub mod Rows
 pub mod Step
+pub mod Asked
+pub mod Outcome

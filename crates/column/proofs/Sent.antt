@@ -7,27 +7,27 @@ use Prim.Native.Nat.{ℕ}
 use native.Mathlib.Omega.{arith}
 use lib.ListN.{length}
 use Rattle.code.specs.Vector.{has-checks}
-use Rattle.column.specs.Frame.{operand-size, frame-size, header, operand-in, checks-in}
-use Rattle.column.specs.Record.{Rec}
+use Rattle.record.specs.Frame.{operand-size, frame-size, header, operand-in, checks-in}
+use Rattle.record.specs.Record.{Who, Found, Rec}
 use Rattle.column.specs.Call.{Operand, Frame-of}
 
 -- the operand of each round
-module _ (m : ℕ) (r : Rec) (xs : List ℕ) where
-  pub operand-own : m ≡ 1 → xs ≡ r .own → Operand m r xs
+module _ (m : ℕ) (w : Who) (f : Found) (xs : List ℕ) where
+  pub operand-own : m ≡ 1 → xs ≡ w .own → Operand m w f xs
   unfolding Operand
-  operand-own e f = subst (λ (k : ℕ). Operand k r xs) (sym e) f
+  operand-own e g = subst (λ (k : ℕ). Operand k w f xs) (sym e) g
 
-  pub operand-heard : m ≡ 2 → has-checks (r .settings) (r .heard) (checks-in (r .settings) xs) ≡ true → Operand m r xs
+  pub operand-heard : m ≡ 2 → has-checks (w .settings) (f .heard) (checks-in (w .settings) xs) ≡ true → Operand m w f xs
   unfolding Operand
-  operand-heard e f = subst (λ (k : ℕ). Operand k r xs) (sym e) f
+  operand-heard e g = subst (λ (k : ℕ). Operand k w f xs) (sym e) g
 
-  pub operand-agreed : m ≡ 3 → has-checks (r .settings) (r .agreed) (checks-in (r .settings) xs) ≡ true → Operand m r xs
+  pub operand-agreed : m ≡ 3 → has-checks (w .settings) (f .agreed) (checks-in (w .settings) xs) ≡ true → Operand m w f xs
   unfolding Operand
-  operand-agreed e f = subst (λ (k : ℕ). Operand k r xs) (sym e) f
+  operand-agreed e g = subst (λ (k : ℕ). Operand k w f xs) (sym e) g
 
 -- the frame
 pub frame-sent :
-    (r : Rec) (xs : List ℕ) → length xs ≡ operand-size (r .settings) (r .round) → Operand (r .round) r xs →
-    Frame-of r (header (r .round) (r .number) (r .run) ++ xs)
+    (r : Rec) (xs : List ℕ) → length xs ≡ operand-size (r .who .settings) (r .round) → Operand (r .round) (r .who) (r .found) xs →
+    Frame-of r (header (r .round) (r .who .number) (r .who .run) ++ xs)
 unfolding Frame-of header operand-in frame-size
 frame-sent r xs e o = (refl, omega arith, o)

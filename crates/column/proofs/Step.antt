@@ -7,78 +7,54 @@ use Prim.Native.Nat.{ℕ, zero, suc, _≤_}
 use native.Mathlib.Omega.{arith}
 use lib.Dec.{eqb}
 use borrow.Author.Tests.{eqb-true, eqb-false}
-use Rattle.counting.specs.Value.{Vector, Rows}
-use Rattle.counting.specs.Held.{Held}
-use Rattle.counting.specs.Count.{agreed-vector, held-list}
-use Rattle.column.specs.Frame.{operand-in}
-use Rattle.column.specs.Record.{Rec, no-frames, with-refused, with-frame, next-round}
-use Rattle.column.specs.Refusal.{take-refusal, close-refusal, counts-up}
-use Rattle.column.specs.Exchange.{heard-vector, Table}
-use Rattle.column.specs.Call.{Call, taking, sending, closing, asking, after-take, Closed, After-close, Leads}
-use Rattle.column.proofs.Refusal.{close-round}
+use Rattle.grading.specs.Value.{Rows}
+use Rattle.grading.specs.Count.{agreed-vector, held-list}
+use Rattle.record.specs.Frame.{operand-in}
+use Rattle.record.specs.Record.{Rec, no-frames, found-as, with-refused, with-frame, next-round}
+use Rattle.record.specs.Refusal.{take-refusal, close-refusal, counts-up}
+use Rattle.rounds.specs.Exchange.{heard-vector, Table, Closed}
+use Rattle.column.specs.Call.{Call, taking, sending, closing, asking, after-take, After-close, Leads}
+use Rattle.record.proofs.Refusal.{close-round}
 use Rattle.column.proofs.Frame.{after-take-taken}
-
--- the same column
-pub record Same-column (r q : Rec) : Type 0 where
-  pub settings : q .settings ≡ r .settings
-  pub number : q .number ≡ r .number
-  pub run : q .run ≡ r .run
-  pub own : q .own ≡ r .own
 
 -- as before but for the refused count
 pub record Unchanged (r q : Rec) : Type 0 where
-  pub column : Same-column r q
+  pub who : q .who ≡ r .who
   pub round : q .round ≡ r .round
   pub frames : q .frames ≡ r .frames
-  pub heard : q .heard ≡ r .heard
-  pub agreed : q .agreed ≡ r .agreed
-  pub held : q .held ≡ r .held
-
-same-column-self : (r : Rec) → Same-column r r
-same-column-self r = record { settings = refl; number = refl; run = refl; own = refl }
+  pub found : q .found ≡ r .found
 
 unchanged-self : (r : Rec) → Unchanged r r
-unchanged-self r = record { column = same-column-self r; round = refl; frames = refl; heard = refl; agreed = refl; held = refl }
+unchanged-self r = record { who = refl; round = refl; frames = refl; found = refl }
 
 unchanged-refused : (r : Rec) (k : ℕ) → Unchanged r (with-refused r k)
 unfolding with-refused
-unchanged-refused r k =
-    record { column = record { settings = refl; number = refl; run = refl; own = refl }; round = refl; frames = refl; heard = refl; agreed = refl; held = refl }
+unchanged-refused r k = record { who = refl; round = refl; frames = refl; found = refl }
 
 -- a round closed
 pub record Closes (r q : Rec) : Type 0 where
-  pub column : Same-column r q
+  pub who : q .who ≡ r .who
   pub low : 1 ≤ r .round
   pub high : r .round ≤ 3
   pub round : q .round ≡ suc (r .round)
-  pub frames : q .frames ≡ no-frames (r .settings)
-  pub one : r .round ≡ 1 → q .heard ≡ heard-vector r
-  pub two : r .round ≡ 2 → (rows : Rows) × Table r (r .heard) rows × (q .agreed ≡ agreed-vector (r .settings) rows)
-  pub three : r .round ≡ 3 → (rows : Rows) × Table r (r .agreed) rows × (q .held ≡ held-list (r .settings) rows)
-  pub heard-kept : 2 ≤ r .round → q .heard ≡ r .heard
-  pub agreed-kept : 3 ≤ r .round → q .agreed ≡ r .agreed
-
-column-next : (r q : Rec) (vs ys : Vector) (hs : List Held) → q ≡ next-round r vs ys hs → Same-column r q
-unfolding next-round
-column-next r q vs ys hs e =
-    record {
-      settings = ap (λ (z : Rec). z .settings) e;
-      number = ap (λ (z : Rec). z .number) e;
-      run = ap (λ (z : Rec). z .run) e;
-      own = ap (λ (z : Rec). z .own) e;
-    }
+  pub frames : q .frames ≡ no-frames (r .who .settings)
+  pub one : r .round ≡ 1 → q .found .heard ≡ heard-vector r
+  pub two : r .round ≡ 2 → (rows : Rows) × Table r (r .found .heard) rows × (q .found .agreed ≡ agreed-vector (r .who .settings) rows)
+  pub three : r .round ≡ 3 → (rows : Rows) × Table r (r .found .agreed) rows × (q .found .held ≡ held-list (r .who .settings) rows)
+  pub heard-kept : 2 ≤ r .round → q .found .heard ≡ r .found .heard
+  pub agreed-kept : 3 ≤ r .round → q .found .agreed ≡ r .found .agreed
 
 closes-of : (m : ℕ) (r q : Rec) → r .round ≡ m → 1 ≤ m → m ≤ 3 → Closed m r q → Closes r q
-unfolding Closed next-round
+unfolding Closed next-round found-as
 closes-of zero r q e h l c = absurd (omega arith)
 closes-of (suc zero) r q e h l c =
     record {
-      column = column-next r q _ _ _ c;
+      who = ap (λ (z : Rec). z .who) c;
       low = omega arith;
       high = omega arith;
       round = ap (λ (z : Rec). z .round) c;
       frames = ap (λ (z : Rec). z .frames) c;
-      one = λ f. ap (λ (z : Rec). z .heard) c;
+      one = λ f. ap (λ (z : Rec). z .found .heard) c;
       two = λ f. absurd (omega arith);
       three = λ f. absurd (omega arith);
       heard-kept = λ f. absurd (omega arith);
@@ -86,29 +62,29 @@ closes-of (suc zero) r q e h l c =
     }
 closes-of (suc (suc zero)) r q e h l c =
     record {
-      column = column-next r q _ _ _ (c .2);
+      who = ap (λ (z : Rec). z .who) (c .2);
       low = omega arith;
       high = omega arith;
       round = ap (λ (z : Rec). z .round) (c .2);
       frames = ap (λ (z : Rec). z .frames) (c .2);
       one = λ f. absurd (omega arith);
-      two = λ f. (c .0, c .1, ap (λ (z : Rec). z .agreed) (c .2));
+      two = λ f. (c .0, c .1, ap (λ (z : Rec). z .found .agreed) (c .2));
       three = λ f. absurd (omega arith);
-      heard-kept = λ f. ap (λ (z : Rec). z .heard) (c .2);
+      heard-kept = λ f. ap (λ (z : Rec). z .found .heard) (c .2);
       agreed-kept = λ f. absurd (omega arith);
     }
 closes-of (suc (suc (suc zero))) r q e h l c =
     record {
-      column = column-next r q _ _ _ (c .2);
+      who = ap (λ (z : Rec). z .who) (c .2);
       low = omega arith;
       high = omega arith;
       round = ap (λ (z : Rec). z .round) (c .2);
       frames = ap (λ (z : Rec). z .frames) (c .2);
       one = λ f. absurd (omega arith);
       two = λ f. absurd (omega arith);
-      three = λ f. (c .0, c .1, ap (λ (z : Rec). z .held) (c .2));
-      heard-kept = λ f. ap (λ (z : Rec). z .heard) (c .2);
-      agreed-kept = λ f. ap (λ (z : Rec). z .agreed) (c .2);
+      three = λ f. (c .0, c .1, ap (λ (z : Rec). z .found .held) (c .2));
+      heard-kept = λ f. ap (λ (z : Rec). z .found .heard) (c .2);
+      agreed-kept = λ f. ap (λ (z : Rec). z .found .agreed) (c .2);
     }
 closes-of (suc (suc (suc (suc m)))) r q e h l c = absurd (omega arith)
 
@@ -154,3 +130,16 @@ after-take-round r k bs = go (eqb (take-refusal r k bs) 0) refl
 pub leads-closing : (m : ℕ) (r q : Rec) → close-refusal r ≡ 0 → r .round ≡ m → Closed m r q → Leads closing r q
 unfolding Leads After-close
 leads-closing m r q e f c = subst (λ (n : ℕ). After-close n r q) (sym e) (subst (λ (n : ℕ). Closed n r q) (sym f) c)
+
+pub closing-leads : (r q : Rec) → close-refusal r ≡ 0 → Leads closing r q → Closed (r .round) r q
+unfolding Leads After-close
+closing-leads r q e l = subst (λ (n : ℕ). After-close n r q) e l
+
+-- a refusal
+pub close-refused : (r : Rec) → (close-refusal r ≡ 0 → ⊥) → Leads closing r r
+unfolding Leads After-close
+close-refused r h = go (close-refusal r) h
+  where
+    go : (k : ℕ) → (k ≡ 0 → ⊥) → After-close k r r
+    go zero d = absurd (d refl)
+    go (suc k) d = refl

@@ -6,12 +6,10 @@ use Prim.Native.Nat.{ℕ, zero, suc}
 use lib.Dec.{eqb}
 use lib.ListN.{length, take}
 use Rattle.code.specs.Vector.{has-checks}
-use Rattle.counting.specs.Value.{Rows}
-use Rattle.counting.specs.Count.{agreed-vector, held-list}
-use Rattle.column.specs.Frame.{frame-size, header, operand-in, checks-in}
-use Rattle.column.specs.Record.{Rec, with-refused, with-frame, next-round}
-use Rattle.column.specs.Refusal.{take-refusal, close-refusal, counts-up}
-use Rattle.column.specs.Exchange.{heard-vector, Table}
+use Rattle.record.specs.Frame.{header-size, frame-size, header, operand-in, checks-in}
+use Rattle.record.specs.Record.{Who, Found, Rec, with-refused, with-frame}
+use Rattle.record.specs.Refusal.{take-refusal, close-refusal, counts-up}
+use Rattle.rounds.specs.Exchange.{Closed}
 
 -- the calls after an opening: taking a frame that came in a slot, sending into so many lent bytes, closing a round, asking for the result
 pub data Call : Type 0 where
@@ -25,16 +23,6 @@ unfoldable pub after-take : Rec → (slot : ℕ) → (bytes : List ℕ) → Rec
 after-take r k bs =
     let n = take-refusal r k bs in
     cond (eqb n 0) (with-frame r k (operand-in bs)) (cond (counts-up n) (with-refused r k) r)
-
--- the record after a round is closed: V after one, Y of the table X after two, values and confidences of the table Z after three
-unfoldable pub Closed : (round : ℕ) → Rec → Rec → Type 0
-Closed zero r q = q ≡ r
-Closed (suc zero) r q = q ≡ next-round r (heard-vector r) [] []
-Closed (suc (suc zero)) r q =
-    (rows : Rows) × Table r (r .heard) rows × (q ≡ next-round r (r .heard) (agreed-vector (r .settings) rows) [])
-Closed (suc (suc (suc zero))) r q =
-    (rows : Rows) × Table r (r .agreed) rows × (q ≡ next-round r (r .heard) (r .agreed) (held-list (r .settings) rows))
-Closed (suc (suc (suc (suc m)))) r q = q ≡ r
 
 -- the record after closing: refused, as before
 unfoldable pub After-close : (refusal : ℕ) → Rec → Rec → Type 0
@@ -59,14 +47,15 @@ pub data Passes : Rec → List Call → (at : Rec) → (rest : List Call) → Ty
   later : (r q z : Rec) (c : Call) (cs rest : List Call) → Leads c r q → Passes q cs z rest → Passes r (c ∷ cs) z rest
 
 -- the operand of a round's frame: the own value in round one, the checks of V in two, the checks of Y in three
-unfoldable pub Operand : (round : ℕ) → Rec → List ℕ → Type 0
-Operand zero r xs = ⊥
-Operand (suc zero) r xs = xs ≡ r .own
-Operand (suc (suc zero)) r xs = has-checks (r .settings) (r .heard) (checks-in (r .settings) xs) ≡ true
-Operand (suc (suc (suc zero))) r xs = has-checks (r .settings) (r .agreed) (checks-in (r .settings) xs) ≡ true
-Operand (suc (suc (suc (suc m)))) r xs = ⊥
+unfoldable pub Operand : (round : ℕ) → Who → Found → List ℕ → Type 0
+Operand zero w f xs = ⊥
+Operand (suc zero) w f xs = xs ≡ w .own
+Operand (suc (suc zero)) w f xs = has-checks (w .settings) (f .heard) (checks-in (w .settings) xs) ≡ true
+Operand (suc (suc (suc zero))) w f xs = has-checks (w .settings) (f .agreed) (checks-in (w .settings) xs) ≡ true
+Operand (suc (suc (suc (suc m)))) w f xs = ⊥
 
 -- the frame of a column's round: the table's, with the column's number and the run number
 unfoldable pub Frame-of : Rec → (bytes : List ℕ) → Type 0
 Frame-of r bs =
-    (take 4 bs ≡ header (r .round) (r .number) (r .run)) × (length bs ≡ frame-size (r .settings) (r .round)) × Operand (r .round) r (operand-in bs)
+    (take header-size bs ≡ header (r .round) (r .who .number) (r .who .run)) × (length bs ≡ frame-size (r .who .settings) (r .round))
+    × Operand (r .round) (r .who) (r .found) (operand-in bs)

@@ -1,10 +1,3 @@
-pub mod Frame
-pub mod Record
-pub mod Refusal
-pub mod Exchange
 pub mod Call
-pub mod Promise
-pub mod View
 pub mod Entry
-pub mod Senders
-pub mod Closing
+pub mod Promise

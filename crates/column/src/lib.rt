@@ -1,122 +1,122 @@
 // One column's part in the exchange: its record and the calls on it.
-mod closing;
-mod frames;
-pub mod record;
-mod refusals;
-mod senders;
 mod sending;
-mod taking;
 
 ghost use Rattle.column.specs.Entry.{Open-says, Take-says, Send-says, Close-says, Result-says};
-use crate::record::Column;
-use crate::record::Holdings;
-use crate::record::Outcome;
+use code::sizes::MOST_COLUMNS;
+use code::sizes::VALUE_ROOM;
+use code::sizes::VECTOR_ROOM;
 use counting::lent;
+use record::Column;
+use record::Holdings;
+use record::Identity;
+use record::Outcome;
+use record::frames;
+use record::refusals;
+use record::slots;
+use rounds::closing;
 
 // A column with its settings, number, run and own value: 0, or the refusal 1 to 6.
 pub fn open(n: u32, t: u32, w: u32, number: u32, run: u16, own: &[u8]) -> Outcome
     ensures { λ r. ⌜ Open-says n t w number run (now (own .entry)) (r .answer) (r .column) ⌝ }
 {
     let mut column = record::empty();
-    let refusal = refusals::open_refusal(n, t, w, number, own);
-    if refusal != 0 {
-        return Outcome {
-            answer: refusal,
-            column,
+    let answer = refusals::open_refusal(n, t, w, number, own);
+    if answer == 0 {
+        let mut value = [0u8; VALUE_ROOM];
+        lent::copy(own, &mut value);
+        let who = Identity {
+            n,
+            t,
+            w,
+            number,
+            run,
+            own: value,
         };
+        column.who = who;
+        column.round = 1;
     }
-    let mut value = [0u8; 8];
-    lent::copy(own, &mut value);
-    column.n = n;
-    column.t = t;
-    column.w = w;
-    column.number = number;
-    column.run = run;
-    column.round = 1;
-    column.own = value;
-    Outcome { answer: 0, column }
+    Outcome { answer, column }
 }
 
 // Takes a frame that came in a slot: 0, or the refusal 1 to 4 or 6 to 15.
-pub fn take(column: Column, slot: u32, frame: &[u8]) -> Outcome
+pub fn take(mut column: Column, slot: u32, frame: &[u8]) -> Outcome
     ensures { λ r. ⌜ Take-says column slot (now (frame .entry)) (r .answer) (r .column) ⌝ }
 {
-    let early = refusals::slot_refusal(column, slot);
-    if early != 0 {
-        return record::refused(early, column);
+    let who = column.who;
+    let mut answer = refusals::slot_refusal(who, column.round, slot);
+    if answer == 0 {
+        let k = (slot - 1) as usize;
+        let place = column.slots[k];
+        answer = frames::frame_refusal(who, column.round, slot, place.taken, frame);
+        if answer == 0 {
+            let filled = slots::filled(frame);
+            column.slots[k] = filled;
+        } else {
+            column.refused = record::raised(column.refused);
+        }
     }
-    let k = (slot - 1) as usize;
-    let place = column.slots[k];
-    let answer = frames::frame_refusal(
-        column.t,
-        column.w,
-        column.run,
-        column.round,
-        slot,
-        place.taken,
-        frame,
-    );
-    if 0 < answer {
-        return record::refused(answer, column);
-    }
-    let kept = taking::keep(column, slot, frame);
-    Outcome {
-        answer,
-        column: kept,
-    }
+    Outcome { answer, column }
 }
 
 // Writes the frame of the round in front of a buffer: 0, or the refusal 1 to 4, 6, 7 or 16.
 pub fn send(column: Column, buffer: &mut [u8]) -> u32
     ensures { λ r. ⌜ Send-says column (now (buffer .entry)) r (now (buffer .exit)) ⌝ }
 {
-    let refusal = refusals::close_refusal(column);
+    let who = column.who;
+    let refusal = refusals::close_refusal(who, column.round);
     if refusal != 0 {
         return refusal;
     }
-    let size = frames::frame_size(column.t, column.w, column.round);
+    let size = frames::frame_size(who, column.round);
     if buffer.len() < size {
         return 16;
     }
-    sending::put_header(column.round, column.number, column.run, buffer);
-    sending::put_operand(column, &mut buffer[4..size]);
+    frames::put_header(column.round, who.number, who.run, buffer);
+    let found = column.found;
+    sending::put_operand(who, column.round, found, &mut buffer[record::HEADER..size]);
     0
 }
 
 // Closes the round: 0, or the refusal 1 to 4, 6 or 7.
-pub fn close(column: Column) -> Outcome
+pub fn close(mut column: Column) -> Outcome
     ensures { λ r. ⌜ Close-says column (r .answer) (r .column) ⌝ }
 {
-    let refusal = refusals::close_refusal(column);
-    if refusal != 0 {
-        return Outcome {
-            answer: refusal,
-            column,
-        };
+    let who = column.who;
+    let answer = refusals::close_refusal(who, column.round);
+    if answer == 0 {
+        let found = closing::found_after(column);
+        let empty = slots::no_slots();
+        column.found = found;
+        column.slots = empty;
+        column.round = column.round + 1;
     }
-    let next = closing::closed(column);
-    Outcome {
-        answer: 0,
-        column: next,
-    }
+    Outcome { answer, column }
 }
 
-// The values and confidences that the column ended with: 0, or the refusal 1 to 4, 6 or 17.
+// The values and confidences that the column ended with, zeros behind them: 0, or the refusal 1 to 4, 6 or 17.
 pub fn result(column: Column) -> Holdings
     ensures { λ r. ⌜ Result-says column (r .answer) (r .values) (r .confidences) ⌝ }
 {
-    let refusal = refusals::ask_refusal(column);
-    if refusal != 0 {
+    let who = column.who;
+    let answer = refusals::ask_refusal(who, column.round);
+    let mut values = [0u8; VECTOR_ROOM];
+    let mut confidences = [0u8; MOST_COLUMNS];
+    if answer != 0 {
         return Holdings {
-            answer: refusal,
-            values: [0u8; 256],
-            confidences: [0u8; 32],
+            answer,
+            values,
+            confidences,
         };
     }
-    let values = column.values;
-    let confidences = column.confidences;
+    let found = column.found;
+    let held = found.values;
+    let held_confidences = found.confidences;
+    let many = who.n as usize;
+    let size = (who.n * who.w) as usize;
+    lent::copy(&held[..size], &mut values);
+    lent::copy(&held_confidences[..many], &mut confidences);
     Holdings {
-        answer: 0,
+        answer,
         values,
         confidences,
     }

@@ -1,36 +1,153 @@
 -- `result` meets its contract: refused, it answers zeros; in round four, the values and confidences of the record. Assumes nothing.
-use mathlib.Core.Path.{refl, sym, _∙_}
+use mathlib.Core.Path.{_≡_, refl, sym, _∙_, subst}
+use mathlib.Core.List.{List}
+use Prim.Native.Nat.{ℕ, _*_, _≤_}
 use native.Mathlib.Omega.{arith}
-use lib.ListN.{replicate}
+use lib.ListN.{length}
+use lib.Seq.{length-take-le}
 use borrow.Author.Needs.{needs}
-use Rattle.code.proofs.Written.{zero-at}
-use Rattle.column.specs.View.{view}
-use Rattle.column.proofs.View.{view-held}
-use Rattle.column.proofs.Refusal.{ask-round}
+use Rattle.code.specs.Settings.{Settings, settings, value-size}
+use Rattle.code.specs.Size.{most-columns, vector-room}
+use Rattle.code.specs.Entry.{padded}
+use Rattle.code.proofs.Cut.{values-fit}
+use Rattle.code.proofs.Word.{sizes}
+use Rattle.grading.specs.Held.{Held}
+use Rattle.counting.specs.Stored.{Stores-held}
+use Rattle.record.specs.Record.{who-as}
+use Rattle.record.specs.Refusal.{ask-refusal}
+use Rattle.record.specs.View.{settings-of, who-in, view}
+use Rattle.record.proofs.Refusal.{ask-round, ask-settings}
+use Rattle.record.proofs.View.{found-held}
+use Rattle.column.proofs.Asked.{result-stores}
 use Rattle.column.proofs.result.Statement.{statement}
 use Rattle.column.proofs.result.Tie as tie
 
 ask-refusal-requires : tie.Need-ask-refusal-requires
 ask-refusal-requires c κs = search needs
 
+-- the lines of asking
+answer : (c : tie.After-ask-refusal) → c .ask-refusal .result ≡ ask-refusal (view (c .before .before .args .column))
+unfolding ask-refusal view
+answer c = c .ask-refusal .ensures
+
 returns : tie.Need-returns
-returns c =
+returns c = record { answered = answer (c .before); done = λ e. absurd (c .if1 .taken e); refused = λ e. (refl, refl) }
+
+-- past them
+abbrev start : tie.Else1 → tie.Start
+start c = c .before .before .before
+
+record Passed (c : tie.Else1) : Type 0 where
+  asked : ask-refusal (view (start c .args .column)) ≡ 0
+  few : start c .args .column .who .n ≤ most-columns
+  room : start c .args .column .who .n * start c .args .column .who .w ≤ vector-room
+  values-long : length (start c .args .column .found .values) ≡ vector-room
+  confidences-long : length (start c .args .column .found .confidences) ≡ most-columns
+
+passed : (c : tie.Else1) → Passed c
+unfolding view who-in who-as settings-of settings
+passed c =
+    let zero = sym (answer (c .before)) ∙ c .if1 .left in
+    let few = sizes _ (ask-settings (view (start c .args .column)) zero) in
     record {
-      answered = c .before .ask-refusal .ensures;
-      done = λ e. absurd (c .if1 .taken e);
-      refused = λ e j. (zero-at (replicate 256 0) refl j, zero-at (replicate 32 0) refl j);
+      asked = zero;
+      few = few .few-columns;
+      room = values-fit _ _ (few .few-columns) (few .few-bytes);
+      values-long = search needs;
+      confidences-long = search needs;
     }
 
+cast-many : tie.Need-cast-many
+cast-many c = search needs
+
+-- the record's arrays in hand, and how many of their bytes there are
+abbrev else-at : tie.After-struct-known2 → tie.Else1
+else-at c = c .before .before .before .before .before
+
+mul-size : tie.Need-mul-size
+mul-size c = omega (arith, passed (else-at c))
+
+cast-size : tie.Need-cast-size
+cast-size c = omega (arith, passed (else-at c))
+
+array-share-prefix-held : tie.Need-array-share-prefix-held
+array-share-prefix-held c = omega (arith, passed (else-at c))
+
+slice-aggregate-copy : tie.Need-slice-aggregate-copy
+slice-aggregate-copy c = let p = passed (else-at (c .before)) in sym (length-take-le _ _ (omega (arith, p)))
+
+slice-aggregate-copy-2 : tie.Need-slice-aggregate-copy-2
+slice-aggregate-copy-2 c = search needs
+
+copy-requires : tie.Need-copy-requires
+copy-requires c κs =
+    let e = else-at (c .before .before) in
+    let a = start e .args .column in
+    let p = passed e in
+    omega (arith, p, length-take-le (a .who .n * a .who .w) (a .found .values) (omega (arith, p)))
+
+array-share-prefix-held-confidences : tie.Need-array-share-prefix-held-confidences
+array-share-prefix-held-confidences c = omega (arith, passed (else-at (c .before .before .before .before)))
+
+slice-aggregate-copy-3 : tie.Need-slice-aggregate-copy-3
+slice-aggregate-copy-3 c = let p = passed (else-at (c .before .before .before .before .before)) in sym (length-take-le _ _ (omega (arith, p)))
+
+slice-aggregate-copy-4 : tie.Need-slice-aggregate-copy-4
+slice-aggregate-copy-4 c = search needs
+
+copy-requires-2 : tie.Need-copy-requires-2
+copy-requires-2 c κs =
+    let e = else-at (c .before .before .before .before .before .before) in
+    let a = start e .args .column in
+    let p = passed e in
+    omega (arith, p, length-take-le (a .who .n) (a .found .confidences) (omega (arith, p)))
+
+-- the values copied
+abbrev first-copy : tie.After-copy2 → tie.After-copy
+first-copy c = c .before .before .before .before
+
+abbrev counted-at : tie.After-copy → tie.After-struct-known2
+counted-at c = c .before .before .before
+
+stores-alike :
+    {s : Settings} {hs gs : List Held} {vs us cs ks : List ℕ} → hs ≡ gs → vs ≡ us → cs ≡ ks → Stores-held s gs us ks → Stores-held s hs vs cs
+stores-alike {s} {hs} {gs} {vs} {us} {cs} {ks} e f g x =
+    subst (λ (y : List Held). Stores-held s y vs cs) (sym e)
+    (subst (λ (y : List ℕ). Stores-held s gs y cs) (sym f) (subst (λ (y : List ℕ). Stores-held s gs us y) (sym g) x))
+
 returns-2 : tie.Need-returns-2
-unfolding view
+unfolding view who-in who-as settings-of settings value-size padded
 returns-2 c =
-    let r = c .before .before .before .before .args .column in
-    let e = sym (c .before .before .before .ask-refusal .ensures) ∙ c .before .before .if1 .left in
+    let second = c .before in
+    let first = first-copy second in
+    let e = else-at (counted-at first) in
+    let p = passed e in
+    let a = start e .args .column in
+    let stored = result-stores (settings-of (a .who)) (a .found .values) (a .found .confidences) (omega (arith, p)) (omega (arith, p)) in
+    let held = found-held (settings-of (a .who)) (a .round) (a .found) (omega (arith, ask-round (view a) (p .asked))) in
     record {
-      answered = sym e;
-      done = λ z. sym (view-held r (omega (arith, ask-round (view r) e)));
-      refused = λ z. absurd (z refl);
+      answered = e .if1 .left ∙ sym (p .asked);
+      done =
+          λ z.
+          stores-alike held (first .copy .ensures) (second .copy2 .ensures) stored;
+      refused = λ z. absurd (z (e .if1 .left));
     }
 
 pub result-spec : {M : Type 1} → statement M
-result-spec = tie.close (tie.spec ask-refusal-requires returns returns-2)
+result-spec =
+    tie.close
+    (tie.spec
+    ask-refusal-requires
+    returns
+    cast-many
+    mul-size
+    cast-size
+    array-share-prefix-held
+    slice-aggregate-copy
+    slice-aggregate-copy-2
+    copy-requires
+    array-share-prefix-held-confidences
+    slice-aggregate-copy-3
+    slice-aggregate-copy-4
+    copy-requires-2
+    returns-2)

@@ -7,99 +7,117 @@ use lib.Seq.{length-take-le}
 use borrow.Author.Needs.{needs}
 use borrow.Author.Tests.{eq-eqb, ne-eqb}
 use Rattle.code.specs.Settings.{settings, settings-refusal, check-count, value-size}
+use Rattle.code.specs.Size.{value-room}
 use Rattle.code.proofs.Word.{sizes}
-use Rattle.column.specs.Frame.{operand-size}
-use Rattle.column.specs.View.{settings-of, view}
-use Rattle.column.proofs.Refusal.{close-round, close-settings}
-use Rattle.column.proofs.View.{view-heard, view-agreed}
-use Rattle.column.proofs.Front.{front-whole}
+use Rattle.record.specs.Frame.{operand-size}
+use Rattle.record.specs.Record.{who-as}
+use Rattle.record.specs.View.{settings-of, who-in}
+use Rattle.record.proofs.Refusal.{first-of-zero, round-inside, record-settings}
+use Rattle.record.proofs.View.{found-heard, found-agreed}
+use Rattle.record.proofs.Front.{front-whole}
 use Rattle.column.proofs.Sent.{operand-own, operand-heard, operand-agreed}
 use Rattle.column.proofs.sending.put_operand.Statement.{statement}
 use Rattle.column.proofs.sending.put_operand.Tie as tie
 
 -- the settings are fine, the round is 1, 2 or 3, and the own value has room in its array
-fine : (c : tie.Start) → settings-refusal (settings (c .args .column .n) (c .args .column .t) (c .args .column .w)) ≡ 0
-unfolding view settings-of
-fine c = close-settings (view (c .args .column)) (c .pre .0)
+fine : (c : tie.Start) → settings-refusal (settings (c .args .who .n) (c .args .who .t) (c .args .who .w)) ≡ 0
+unfolding who-in who-as settings-of
+fine c = record-settings (who-in (c .args .who)) (first-of-zero _ _ (c .pre .0) .0)
 
-inside : (c : tie.Start) → (1 ≤ c .args .column .round) × (c .args .column .round ≤ 3)
-unfolding view
-inside c = close-round (view (c .args .column)) (c .pre .0)
+rounds : (c : tie.Start) → (1 ≤ c .args .round) × (c .args .round ≤ 3)
+rounds c = round-inside (c .args .round) (first-of-zero _ _ (first-of-zero _ _ (c .pre .0) .1) .0)
 
-own-room : (c : tie.Start) → c .args .column .w ≤ length (c .args .column .own)
+own-room : (c : tie.Start) → c .args .who .w ≤ length (c .args .who .own)
 unfolding settings
-own-room c = let long : length (c .args .column .own) ≡ 8 = search needs in omega (arith, sizes _ (fine c) .few-bytes)
+own-room c = let long : length (c .args .who .own) ≡ value-room = search needs in omega (arith, sizes _ (fine c) .few-bytes)
 
-own-long : (c : tie.Start) → length (take (c .args .column .w) (c .args .column .own)) ≡ c .args .column .w
+own-long : (c : tie.Start) → length (take (c .args .who .w) (c .args .who .own)) ≡ c .args .who .w
 own-long c = length-take-le _ _ (own-room c)
 
 -- the operand's length
-value-long : (c : tie.Start) → c .args .column .round ≡ 1 → length (c .args .operand .now) ≡ c .args .column .w
+value-long : (c : tie.Start) → c .args .round ≡ 1 → length (c .args .operand .now) ≡ c .args .who .w
 unfolding operand-size settings-of settings value-size
 value-long c e = c .pre .1 ∙ rw (eq-eqb _ 1 e)
 
 checks-long :
-    (c : tie.Start) → (c .args .column .round ≡ 1 → ⊥) →
+    (c : tie.Start) → (c .args .round ≡ 1 → ⊥) →
     length (c .args .operand .now)
-    ≡ check-count (settings (c .args .column .n) (c .args .column .t) (c .args .column .w))
-    * value-size (settings (c .args .column .n) (c .args .column .t) (c .args .column .w))
+    ≡ check-count (settings (c .args .who .n) (c .args .who .t) (c .args .who .w)) * value-size (settings (c .args .who .n) (c .args .who .t) (c .args .who .w))
 unfolding operand-size settings-of
 checks-long c e = c .pre .1 ∙ rw (ne-eqb _ 1 e)
+
+-- round one
+abbrev start-one : tie.Then1 → tie.Start
+start-one c = c .before .before
 
 cast-size : tie.Need-cast-size
 cast-size c = search needs
 
 array-share-prefix-own : tie.Need-array-share-prefix-own
-array-share-prefix-own c = own-room (c .before .before .before .before .before)
+array-share-prefix-own c = own-room (start-one (c .before .before))
 
 slice-aggregate-copy : tie.Need-slice-aggregate-copy
-slice-aggregate-copy c = sym (own-long (c .before .before .before .before .before .before))
+slice-aggregate-copy c = sym (own-long (start-one (c .before .before .before)))
 
 copy-requires : tie.Need-copy-requires
-copy-requires c κs = omega (arith, own-long (c .before .before .before .before .before .before .before), value-long (c .before .before .before .before .before .before .before) (c .before .before .before .before .if1 .taken))
+copy-requires c κs =
+    let one = c .before .before .before .before in omega (arith, own-long (start-one one), value-long (start-one one) (one .if1 .taken))
 
 same-length : tie.Need-same-length
 same-length c = search needs
 
 returns : tie.Need-returns
-unfolding view settings-of settings value-size
+unfolding who-in who-as settings-of settings value-size
 returns c =
-    let s = c .before .before .before .before .before .before .before .before .before .before in
-    let one = c .before .before .before .before .before .before .before .if1 .taken in
-    operand-own (s .args .column .round) (view (s .args .column)) _ one
-    (c .before .before .copy .ensures ∙ front-whole _ (s .args .operand .now) (omega (arith, own-long s, value-long s one)))
+    let p = c .before .before in
+    let one = p .before .before .before .before .before in
+    let s = start-one one in
+    operand-own (s .args .round) (who-in (s .args .who)) _ _ (one .if1 .taken)
+    (p .copy .ensures ∙ front-whole _ _ (omega (arith, own-long s, value-long s (one .if1 .taken))))
+
+-- rounds two and three
+abbrev start-else : tie.Else1 → tie.Start
+start-else c = c .before .before
 
 slice-aggregate-put-checks : tie.Need-slice-aggregate-put-checks
 slice-aggregate-put-checks c = search needs
 
 put-checks-requires : tie.Need-put-checks-requires
-put-checks-requires c κs = (fine (c .before .before .before .before .before .before .before .before), search needs, checks-long (c .before .before .before .before .before .before .before .before) (c .before .before .before .before .before .if1 .left))
+put-checks-requires c κs =
+    let e = c .before .before .before .before in (fine (start-else e), search needs, checks-long (start-else e) (e .if1 .left))
 
 same-length-2 : tie.Need-same-length-2
 same-length-2 c = search needs
 
 returns-2 : tie.Need-returns-2
-unfolding view settings-of
+unfolding who-in who-as settings-of settings
 returns-2 c =
-    let r = c .before .before .before .before .before .before .before .before .before .before .before .args .column in
-    let two = c .before .before .before .before .before .before .if2 .taken in
-    operand-heard (r .round) (view r) _ two (rw (view-heard r (omega (arith, two))) (c .before .before .put-checks .ensures))
+    let p = c .before .before in
+    let two = p .before .before .before .before in
+    let a = start-else (two .before) .args in
+    operand-heard (a .round) (who-in (a .who)) _ _ (two .if2 .taken)
+    (rw (found-heard (settings-of (a .who)) (a .round) (a .found) (omega (arith, two .if2 .taken))) (p .put-checks .ensures))
 
 slice-aggregate-put-checks-2 : tie.Need-slice-aggregate-put-checks-2
 slice-aggregate-put-checks-2 c = search needs
 
 put-checks-requires-2 : tie.Need-put-checks-requires-2
-put-checks-requires-2 c κs = (fine (c .before .before .before .before .before .before .before .before), search needs, checks-long (c .before .before .before .before .before .before .before .before) (c .before .before .before .before .before .if1 .left))
+put-checks-requires-2 c κs =
+    let e = c .before .before .before .before in (fine (start-else e), search needs, checks-long (start-else e) (e .if1 .left))
 
 same-length-3 : tie.Need-same-length-3
 same-length-3 c = search needs
 
 returns-3 : tie.Need-returns-3
-unfolding view settings-of
+unfolding who-in who-as settings-of settings
 returns-3 c =
-    let r = c .before .before .before .before .before .before .before .before .before .before .before .args .column in
-    let three : r .round ≡ 3 = omega (arith, inside (c .before .before .before .before .before .before .before .before .before .before .before), c .before .before .before .before .before .before .before .before .if1 .left, c .before .before .before .before .before .before .if2 .left) in
-    operand-agreed (r .round) (view r) _ three (rw (view-agreed r (omega (arith, three))) (c .before .before .put-checks2 .ensures))
+    let p = c .before .before in
+    let two = p .before .before .before .before in
+    let s = start-else (two .before) in
+    let a = s .args in
+    let three : a .round ≡ 3 = omega (arith, rounds s, two .before .if1 .left, two .if2 .left) in
+    operand-agreed (a .round) (who-in (a .who)) _ _ three
+    (rw (found-agreed (settings-of (a .who)) (a .round) (a .found) (omega (arith, three))) (p .put-checks2 .ensures))
 
 pub put-operand-spec : {M : Type 1} → statement M
 put-operand-spec =

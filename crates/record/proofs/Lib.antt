@@ -1,0 +1,4 @@
+pub mod Refusal
+pub mod Size
+pub mod Front
+pub mod View

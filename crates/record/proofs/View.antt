@@ -1,0 +1,131 @@
+-- What the program's record says, part by part: a slot filled is a frame put in, empty slots are no frames, and the parts that a
+-- round has made are read as they stand. Lists by induction, the rest read off the definitions. Assumes nothing.
+use mathlib.Core.Path.{_≡_, refl, sym, _∙_, ap}
+use mathlib.Core.Bool.{Bool, true, false, cond, not}
+use mathlib.Core.List.{List, [], _∷_, map}
+use mathlib.Core.Option.{Option, none, some}
+use Prim.Native.Nat.{ℕ, zero, suc, _+_, _-_, _≤_, _<_}
+use native.Mathlib.Omega.{arith}
+use lib.Dec.{eqb}
+use lib.ListN.{length, getD, set, take, replicate, length-map, List·getD-map}
+use lib.Seq.{getD-take, take-set-lt, length-take-le}
+use borrow.Author.Tests.{eq-eqb, ne-eqb, lt-ltb}
+use Rattle.code.specs.Settings.{Settings, settings, value-size}
+use Rattle.code.specs.Size.{most-columns, value-room}
+use Rattle.code.specs.Entry.{values-in, padded}
+use Rattle.code.proofs.Word.{sizes}
+use Rattle.grading.specs.Value.{Value}
+use Rattle.grading.specs.Held.{held-in}
+use Rattle.record.specs.Frame.{header-size, longest-frame, operand-size, frame-size, operand-in}
+use Rattle.record.specs.Record.{who-as, found-as, opened, no-frames, taken-at, is-taken, with-frame, with-refused, raised, refused-at}
+use Rattle.record.specs.Refusal.{take-refusal}
+use Rattle.record.specs.View.{settings-of, who-in, frame-in, frames-in, found-in, view}
+use Rattle.record.specs.Stored.{no-slot, frame-slot, identity, opened-column, with-slot, with-count}
+use Rattle.record.specs.declared.Slot.{Slot}
+use Rattle.record.specs.declared.Findings.{Findings}
+use Rattle.record.specs.declared.Column.{Column}
+use Rattle.record.proofs.Refusal.{Opens, taken-of}
+use Rattle.record.proofs.Front.{front-value, front-operand}
+
+-- one slot
+pub frame-of-empty : (size : ℕ) (x : Slot) → x .taken ≡ 0 → frame-in size x ≡ none
+unfolding frame-in
+frame-of-empty size x e = rw (eq-eqb (x .taken) 0 e) refl
+
+pub frame-of-taken : (size : ℕ) (x : Slot) → (x .taken ≡ 0 → ⊥) → frame-in size x ≡ some (take size (operand-in (x .bytes)))
+unfolding frame-in
+frame-of-taken size x e = rw (ne-eqb (x .taken) 0 e) refl
+
+pub is-taken-frame : (size : ℕ) (x : Slot) → is-taken (frame-in size x) ≡ not (eqb (x .taken) 0)
+unfolding is-taken frame-in
+is-taken-frame size x = go (eqb (x .taken) 0)
+  where
+    go : (b : Bool) → is-taken (cond b none (some (take size (operand-in (x .bytes))))) ≡ not b
+    go true = refl
+    go false = refl
+
+-- the slots of a round
+map-set : {A B : Type 0} (f : A → B) (l : List A) (i : ℕ) (a : A) → map f (set l i a) ≡ set (map f l) i (f a)
+map-set f [] i a = refl
+map-set f (x ∷ l) zero a = refl
+map-set f (x ∷ l) (suc i) a = ap (_∷_ (f x)) (map-set f l i a)
+
+pub frames-set :
+    (s : Settings) (m k : ℕ) (xs : List Slot) (x : Slot) → k < s .n → frames-in s m (set xs k x) ≡ set (frames-in s m xs) k (frame-in (operand-size s m) x)
+unfolding frames-in
+frames-set s m k xs x h = rw (take-set-lt (s .n) xs k x h) (map-set (frame-in (operand-size s m)) (take (s .n) xs) k x)
+
+pub frames-length : (s : Settings) (m : ℕ) (xs : List Slot) → s .n ≤ length xs → length (frames-in s m xs) ≡ s .n
+unfolding frames-in
+frames-length s m xs h = length-map (take (s .n) xs) (frame-in (operand-size s m)) ∙ length-take-le (s .n) xs h
+
+pub frames-at :
+    (s : Settings) (m k : ℕ) (xs : List Slot) (d : Slot) → d .taken ≡ 0 → 1 ≤ k → k ≤ s .n →
+    taken-at (frames-in s m xs) k ≡ frame-in (operand-size s m) (getD xs (k - 1) d)
+unfolding taken-at frames-in
+frames-at s m zero xs d e l h = absurd (omega arith)
+frames-at s m (suc k) xs d e l h =
+    let f = frame-in (operand-size s m) in
+    let q : suc k - 1 ≡ k = omega arith in
+    ap (getD (map f (take (s .n) xs)) k) (sym (frame-of-empty (operand-size s m) d e)) ∙ List·getD-map f (take (s .n) xs) k d
+    ∙ ap f (getD-take (s .n) xs k d (omega arith)) ∙ ap (λ (i : ℕ). f (getD xs i d)) (sym q)
+
+pub slot-taken :
+    (c : Column) (k : ℕ) (d : Slot) → d .taken ≡ 0 → 1 ≤ k → k ≤ c .who .n →
+    is-taken (taken-at (view c .frames) k) ≡ not (eqb (getD (c .slots) (k - 1) d .taken) 0)
+unfolding view settings-of settings
+slot-taken c k d e l h = ap is-taken (frames-at (settings-of (c .who)) (c .round) k (c .slots) d e l h) ∙ is-taken-frame _ (getD (c .slots) (k - 1) d)
+
+frames-empty : (size n many : ℕ) (x : Slot) → x .taken ≡ 0 → n ≤ many → map (frame-in size) (take n (replicate many x)) ≡ replicate n none
+frames-empty size zero many x e h = refl
+frames-empty size (suc n) zero x e h = absurd (omega arith)
+frames-empty size (suc n) (suc many) x e h =
+    rw (frame-of-empty size x e) (ap (λ (fs : List (Option (List ℕ))). none ∷ fs) (frames-empty size n many x e (omega arith)))
+
+pub frames-none : (s : Settings) (m many : ℕ) (x : Slot) → x .taken ≡ 0 → s .n ≤ many → frames-in s m (replicate many x) ≡ no-frames s
+unfolding frames-in no-frames
+frames-none s m many x e h = frames-empty (operand-size s m) (s .n) many x e h
+
+pub no-slots : (s : Settings) (m : ℕ) → s .n ≤ most-columns → frames-in s m (replicate most-columns no-slot) ≡ no-frames s
+unfolding no-slot
+no-slots s m h = frames-none s m most-columns no-slot refl h
+
+-- a record as opening makes it
+pub view-opened : (n t w k run : ℕ) (v : Value) → Opens (settings n t w) k v → view (opened-column (identity n t w k run v)) ≡ opened (settings n t w) k run v
+unfolding view who-in found-in settings-of settings value-size opened-column identity opened padded
+view-opened n t w k run v o =
+    let s = settings n t w in
+    rw (no-slots s 1 (sizes s (o .fine) .few-columns), front-value v (replicate value-room 0) w (o .size)) refl
+
+-- V, Y, values and confidences
+module _ (s : Settings) (m : ℕ) (f : Findings) where
+  pub found-heard : 2 ≤ m → found-in s m f .heard ≡ values-in s (s .n) (f .heard)
+  unfolding found-in found-as
+  found-heard h = rw (lt-ltb 1 m h) refl
+
+  pub found-agreed : 3 ≤ m → found-in s m f .agreed ≡ values-in s (s .n) (f .agreed)
+  unfolding found-in found-as
+  found-agreed h = rw (lt-ltb 2 m h) refl
+
+  pub found-held : 4 ≤ m → found-in s m f .held ≡ held-in s (f .values) (f .confidences)
+  unfolding found-in found-as
+  found-held h = rw (lt-ltb 3 m h) refl
+
+-- a slot with a frame
+slot-read : (size : ℕ) (bs : List ℕ) → length bs ≡ header-size + size → frame-in size (frame-slot bs) ≡ some (operand-in bs)
+unfolding frame-slot padded
+slot-read size bs e = frame-of-taken size (frame-slot bs) (λ z. omega arith) ∙ ap some (front-operand bs (replicate longest-frame 0) size e)
+
+pub view-slot : (c : Column) (k : ℕ) (bs : List ℕ) → take-refusal (view c) k bs ≡ 0 → view (with-slot c k bs) ≡ with-frame (view c) k (operand-in bs)
+unfolding view with-frame frame-size who-in who-as settings-of settings with-slot
+view-slot c k bs e =
+    let taken = taken-of (view c) k bs e in
+    let s = settings-of (c .who) in
+    let low = taken .low in
+    let high = taken .high in
+    rw (frames-set s (c .round) (k - 1) (c .slots) (frame-slot bs) (omega arith), slot-read (operand-size s (c .round)) bs (taken .fits .size))
+
+-- the count
+pub view-refused : (c : Column) (k : ℕ) → view (with-count c (raised (c .refused))) ≡ with-refused (view c) k
+unfolding view with-count with-refused refused-at
+view-refused c k = refl

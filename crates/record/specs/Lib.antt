@@ -1,0 +1,5 @@
+pub mod Frame
+pub mod Record
+pub mod Refusal
+pub mod View
+pub mod Stored

@@ -1,0 +1,83 @@
+-- A column's record: plain data with its round. Assumes nothing: these are definitions.
+use mathlib.Core.Bool.{Bool, true, false, cond}
+use mathlib.Core.List.{List, []}
+use mathlib.Core.Option.{Option, none, some}
+use Prim.Native.Nat.{ℕ, zero, suc, _-_}
+use lib.Dec.{ltb}
+use lib.ListN.{getD, set, replicate}
+use Rattle.code.specs.Settings.{Settings}
+use Rattle.grading.specs.Value.{Value, Vector}
+use Rattle.grading.specs.Held.{Held}
+
+-- who a column is: its settings, own number, run number and own value
+pub record Who : Type 0 where
+  pub settings : Settings
+  pub number : ℕ
+  pub run : ℕ
+  pub own : Value
+
+-- the same from its parts
+unfoldable pub who-as : Settings → (number run : ℕ) → (own : Value) → Who
+who-as s k run v = record { settings = s; number = k; run = run; own = v }
+
+-- what a column has found: V from round two on, Y from round three on, values and confidences in round four
+pub record Found : Type 0 where
+  pub heard : Vector
+  pub agreed : Vector
+  pub held : List Held
+
+-- the same from its parts
+unfoldable pub found-as : (heard agreed : Vector) → List Held → Found
+found-as vs ys hs = record { heard = vs; agreed = ys; held = hs }
+
+-- the record: who the column is; what came in, the frames taken in this round, by slot, as operands; what it has found; its round, 1 to
+-- 4, where 4 is finished; the count of refused frames
+pub record Rec : Type 0 where
+  pub who : Who
+  pub frames : List (Option (List ℕ))
+  pub found : Found
+  pub round : ℕ
+  pub refused : ℕ
+
+-- no frame taken yet, in any of n slots
+unfoldable pub no-frames : Settings → List (Option (List ℕ))
+no-frames s = replicate (s .n) none
+
+-- a record as opening makes it: round one, the refused count 0
+unfoldable pub opened : Settings → (number run : ℕ) → (own : Value) → Rec
+opened s k run v = record { who = who-as s k run v; frames = no-frames s; found = found-as [] [] []; round = 1; refused = 0 }
+
+-- the frame taken in a slot, if there is one; slots count from 1
+unfoldable pub taken-at : List (Option (List ℕ)) → (slot : ℕ) → Option (List ℕ)
+taken-at fs zero = none
+taken-at fs (suc k) = getD fs k none
+
+-- whether there is one
+unfoldable pub is-taken : Option (List ℕ) → Bool
+is-taken none = false
+is-taken (some x) = true
+
+-- the frame of a sender that counts in this round: the one taken
+unfoldable pub counted : Rec → (slot : ℕ) → Option (List ℕ)
+counted r k = taken-at (r .frames) k
+
+-- the count of refused frames, as it is read for a slot: one count serves them all
+unfoldable pub refused-at : Rec → (slot : ℕ) → ℕ
+refused-at r k = r .refused
+
+-- one more in a count of 32 bits that stays at its top
+unfoldable pub raised : ℕ → ℕ
+raised n = cond (ltb n 4294967295) (suc n) n
+
+-- the record with one more frame refused, that came in this slot
+unfoldable pub with-refused : Rec → (slot : ℕ) → Rec
+with-refused r k = record { who = r .who; frames = r .frames; found = r .found; round = r .round; refused = raised (refused-at r k) }
+
+-- the record with the operand of a frame taken in this slot
+unfoldable pub with-frame : Rec → (slot : ℕ) → (operand : List ℕ) → Rec
+with-frame r k x =
+    record { who = r .who; frames = set (r .frames) (k - 1) (some x); found = r .found; round = r .round; refused = r .refused }
+
+-- the record one round on, with what it has found then
+unfoldable pub next-round : Rec → Found → Rec
+next-round r f = record { who = r .who; frames = no-frames (r .who .settings); found = f; round = suc (r .round); refused = r .refused }

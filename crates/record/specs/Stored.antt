@@ -1,0 +1,71 @@
+-- Every byte of the record that the program holds: as opening makes it, with one more frame, with another count, one round on. Bytes
+-- that hold nothing are 0. Assumes nothing: these are definitions.
+use mathlib.Core.Bool.{cond}
+use mathlib.Core.List.{List, []}
+use Prim.Native.Nat.{ℕ, _+_, _-_}
+use lib.Dec.{eqb}
+use lib.ListN.{set, replicate}
+use Rattle.code.specs.Size.{most-columns, value-room, vector-room}
+use Rattle.code.specs.Vector.{glued}
+use Rattle.code.specs.Entry.{padded}
+use Rattle.grading.specs.Held.{held-values, held-confidences}
+use Rattle.record.specs.Frame.{longest-frame}
+use Rattle.record.specs.Record.{Found, raised}
+use Rattle.record.specs.Refusal.{counts-up}
+use Rattle.record.specs.declared.Identity.{Identity}
+use Rattle.record.specs.declared.Slot.{Slot}
+use Rattle.record.specs.declared.Findings.{Findings}
+use Rattle.record.specs.declared.Column.{Column}
+
+-- an empty slot: every byte is 0
+unfoldable pub no-slot : Slot
+no-slot = record { taken = 0; bytes = replicate longest-frame 0 }
+
+-- a slot with a frame: zeros behind it
+unfoldable pub frame-slot : (frame : List ℕ) → Slot
+frame-slot bs = record { taken = 1; bytes = padded longest-frame bs }
+
+-- nothing found: every byte is 0
+unfoldable pub no-findings : Findings
+no-findings =
+    record { heard = replicate vector-room 0; agreed = replicate vector-room 0; values = replicate vector-room 0; confidences = replicate most-columns 0 }
+
+-- who a column is: zeros behind its own value
+unfoldable pub identity : (n t w number run : ℕ) → (own : List ℕ) → Identity
+identity n t w k run v = record { n = n; t = t; w = w; number = k; run = run; own = padded value-room v }
+
+-- no column: every byte is 0, so that each call on it is refused
+unfoldable pub no-column : Column
+no-column =
+    record { who = identity 0 0 0 0 0 []; slots = replicate most-columns no-slot; found = no-findings; round = 0; refused = 0 }
+
+-- a column as opening makes it
+unfoldable pub opened-column : Identity → Column
+opened-column i = record { who = i; slots = replicate most-columns no-slot; found = no-findings; round = 1; refused = 0 }
+
+-- a column with a frame in a slot
+unfoldable pub with-slot : Column → (slot : ℕ) → (frame : List ℕ) → Column
+with-slot c k bs =
+    record { who = c .who; slots = set (c .slots) (k - 1) (frame-slot bs); found = c .found; round = c .round; refused = c .refused }
+
+-- a column with another count of refused frames
+unfoldable pub with-count : Column → (refused : ℕ) → Column
+with-count c k = record { who = c .who; slots = c .slots; found = c .found; round = c .round; refused = k }
+
+-- a column after a refusal: as before, but for the count under 9 to 15
+unfoldable pub after-refusal : (answer : ℕ) → Column → Column
+after-refusal a c = cond (counts-up a) (with-count c (raised (c .refused))) c
+
+-- what a closing writes of what is found then: V in round one, Y in two, values and confidences in three; every other array is as before
+unfoldable pub found-now : (round : ℕ) → (before : Findings) → (now : Found) → Findings
+found-now m f q =
+    record {
+      heard = cond (eqb m 1) (padded vector-room (glued (q .heard))) (f .heard);
+      agreed = cond (eqb m 2) (padded vector-room (glued (q .agreed))) (f .agreed);
+      values = cond (eqb m 3) (padded vector-room (glued (held-values (q .held)))) (f .values);
+      confidences = cond (eqb m 3) (padded most-columns (held-confidences (q .held))) (f .confidences);
+    }
+
+-- a column one round on, its slots empty, with what it has found then
+unfoldable pub one-on : Column → Findings → Column
+one-on c f = record { who = c .who; slots = replicate most-columns no-slot; found = f; round = c .round + 1; refused = c .refused }

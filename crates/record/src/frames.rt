@@ -1,0 +1,92 @@
+// Frames: their lengths, and where one is turned down, the numbers 9 to 15.
+ghost use mathlib.Core.Path.{_≡_};
+ghost use mathlib.Core.Bool.{not};
+ghost use Prim.Native.Nat.{_+_, _*_, _≤_};
+ghost use lib.Dec.{eqb};
+ghost use lib.ListN.{length};
+ghost use Rattle.code.specs.Settings.{settings-refusal};
+ghost use Rattle.code.specs.Size.{most-columns};
+ghost use Rattle.code.specs.Entry.{in-front};
+ghost use Rattle.record.specs.Frame.{header-size, frame-size, longest-frame, command-round, header};
+ghost use Rattle.record.specs.Refusal.{frame-refusal};
+ghost use Rattle.record.specs.View.{settings-of};
+use crate::HEADER;
+use crate::Identity;
+
+// The round that a command belongs to; 0, an unknown command.
+fn command_round(command: u8) -> u32
+    ensures { λ r. ⌜ r ≡ command-round command ⌝ }
+{
+    if command == 0x11 {
+        return 1;
+    }
+    if command == 0x22 {
+        return 2;
+    }
+    if command == 0x33 {
+        return 3;
+    }
+    0
+}
+
+// The whole length of a round's frame, with the header.
+pub fn frame_size(who: Identity, round: u32) -> usize
+    requires { ⌜ settings-refusal (settings-of who) ≡ 0 ⌝ }
+    ensures { λ r. ⌜ (r ≡ frame-size (settings-of who) round) × (r ≤ longest-frame) ⌝ }
+{
+    let bad = who.t as usize;
+    let size = who.w as usize;
+    if round == 1 {
+        return HEADER + size;
+    }
+    HEADER + 2 * bad * size
+}
+
+// The run number of a frame, high byte first.
+fn run_number(high: u8, low: u8) -> u32
+    ensures { λ r. ⌜ r ≡ 256 * high + low ⌝ }
+{
+    (high as u32) * 256 + low as u32
+}
+
+// A frame that came in a slot, which holds one already or not.
+pub fn frame_refusal(who: Identity, round: u32, slot: u32, taken: u8, frame: &[u8]) -> u32
+    requires { ⌜ settings-refusal (settings-of who) ≡ 0 ⌝ }
+    ensures { λ r. ⌜ r ≡ frame-refusal (settings-of who) (who .run) round slot (not (eqb taken 0)) (now (frame .entry)) ⌝ }
+{
+    if frame.len() < HEADER {
+        return 9;
+    }
+    let sent = command_round(frame[0]);
+    if sent == 0 {
+        return 10;
+    }
+    if frame.len() != frame_size(who, sent) {
+        return 11;
+    }
+    let sender = frame[1] as u32;
+    if sender != slot {
+        return 12;
+    }
+    if run_number(frame[2], frame[3]) != who.run as u32 {
+        return 13;
+    }
+    if sent != round {
+        return 14;
+    }
+    if taken != 0 {
+        return 15;
+    }
+    0
+}
+
+// Command, sender, and the run number, high byte first.
+pub fn put_header(round: u32, number: u32, run: u16, buffer: &mut [u8])
+    requires { ⌜ (round ≤ 3) × (number ≤ most-columns) × (header-size ≤ length (now buffer)) ⌝ }
+    ensures { λ _. ⌜ now (buffer .exit) ≡ in-front (header round number run) (now (buffer .entry)) ⌝ }
+{
+    buffer[0] = (0x11 * round) as u8;
+    buffer[1] = number as u8;
+    buffer[2] = (run / 256) as u8;
+    buffer[3] = (run % 256) as u8;
+}

@@ -1,0 +1,108 @@
+// A column's record: plain data, by value. Any bit pattern of it is a record, and each call checks it again.
+pub mod frames;
+pub mod refusals;
+pub mod slots;
+
+ghost use mathlib.Core.Path.{_≡_};
+ghost use Rattle.record.specs.Record.{raised as «raised-of»};
+ghost use Rattle.record.specs.Stored.{no-column};
+use code::sizes::CHECKS_ROOM;
+use code::sizes::MOST_COLUMNS;
+use code::sizes::VALUE_ROOM;
+use code::sizes::VECTOR_ROOM;
+
+// A frame's command, sender and run number.
+pub const HEADER: usize = 4;
+
+pub const LONGEST_FRAME: usize = HEADER + CHECKS_ROOM;
+
+// Who a column is: the settings n, t, w, its number, the run number, and its own value in front of its array.
+#[repr(C)]
+pub struct Identity {
+    pub n: u32,
+    pub t: u32,
+    pub w: u32,
+    pub number: u32,
+    pub run: u16,
+    pub own: [u8; VALUE_ROOM],
+}
+
+// What came in, for one sender: whether its frame of the round was taken, which any number but 0 says, and the frame.
+#[repr(C)]
+pub struct Slot {
+    pub taken: u8,
+    pub bytes: [u8; LONGEST_FRAME],
+}
+
+// What a column has found: V after round one, Y after two, values and confidences after three. Values stand one after the other, w
+// bytes each, from their array's front on.
+#[repr(C)]
+pub struct Findings {
+    pub heard: [u8; VECTOR_ROOM],
+    pub agreed: [u8; VECTOR_ROOM],
+    pub values: [u8; VECTOR_ROOM],
+    pub confidences: [u8; MOST_COLUMNS],
+}
+
+// A record: who the column is, what came in by slot, what it has found, its round, 1 to 4, and the count of refused frames.
+#[repr(C)]
+pub struct Column {
+    pub who: Identity,
+    pub slots: [Slot; MOST_COLUMNS],
+    pub found: Findings,
+    pub round: u32,
+    pub refused: u32,
+}
+
+// What a call that changes the record answers: 0 or the number of the refusal, and the record.
+#[repr(C)]
+pub struct Outcome {
+    pub answer: u32,
+    pub column: Column,
+}
+
+// What asking for the result answers: 0 or the number of the refusal, and the values and confidences.
+#[repr(C)]
+pub struct Holdings {
+    pub answer: u32,
+    pub values: [u8; VECTOR_ROOM],
+    pub confidences: [u8; MOST_COLUMNS],
+}
+
+// The record whose bytes are all 0.
+pub fn empty() -> Column
+    ensures { λ r. ⌜ r ≡ no-column ⌝ }
+{
+    let who = Identity {
+        n: 0,
+        t: 0,
+        w: 0,
+        number: 0,
+        run: 0,
+        own: [0u8; VALUE_ROOM],
+    };
+    let found = Findings {
+        heard: [0u8; VECTOR_ROOM],
+        agreed: [0u8; VECTOR_ROOM],
+        values: [0u8; VECTOR_ROOM],
+        confidences: [0u8; MOST_COLUMNS],
+    };
+    let slots = slots::no_slots();
+    Column {
+        who,
+        slots,
+        found,
+        round: 0,
+        refused: 0,
+    }
+}
+
+// One more in a count that stays at its top.
+pub fn raised(count: u32) -> u32
+    ensures { λ r. ⌜ r ≡ raised-of count ⌝ }
+{
+    if count == 4294967295 {
+        return count;
+    }
+    count + 1
+}

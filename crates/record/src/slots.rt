@@ -1,0 +1,32 @@
+// Slots: empty ones, and the one that a frame is kept in.
+ghost use mathlib.Core.Path.{_≡_};
+ghost use Prim.Native.Nat.{_≤_};
+ghost use lib.ListN.{length, replicate};
+ghost use Rattle.code.specs.Size.{most-columns};
+ghost use Rattle.record.specs.Frame.{longest-frame};
+ghost use Rattle.record.specs.Stored.{no-slot, frame-slot};
+use crate::LONGEST_FRAME;
+use crate::Slot;
+use code::sizes::MOST_COLUMNS;
+use counting::lent;
+
+// Slots in which nothing came.
+pub fn no_slots() -> [Slot; MOST_COLUMNS]
+    ensures { λ r. ⌜ r ≡ replicate most-columns no-slot ⌝ }
+{
+    let slot = Slot {
+        taken: 0,
+        bytes: [0u8; LONGEST_FRAME],
+    };
+    [slot; MOST_COLUMNS]
+}
+
+// The slot that a frame is kept in.
+pub fn filled(frame: &[u8]) -> Slot
+    requires { ⌜ length (now frame) ≤ longest-frame ⌝ }
+    ensures { λ r. ⌜ r ≡ frame-slot (now (frame .entry)) ⌝ }
+{
+    let mut bytes = [0u8; LONGEST_FRAME];
+    lent::copy(frame, &mut bytes);
+    Slot { taken: 1, bytes }
+}

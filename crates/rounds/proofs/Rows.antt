@@ -1,0 +1,171 @@
+-- Rows of a table. The checks that a good sender sends of its vector repair a vector that differs from it in at most t values, and
+-- repair has one answer, so that the sender's row is its vector. For the same reason a record and a vector have one table.
+-- Assumes nothing.
+use mathlib.Core.Path.{_≡_, refl, sym, _∙_, ap, subst}
+use mathlib.Core.Bool.{Bool, true, false}
+use mathlib.Core.List.{List, [], _∷_}
+use mathlib.Core.Logic.{inl, inr}
+use mathlib.Core.Option.{Option, none, some}
+use Prim.Native.Nat.{ℕ, zero, suc, _-_, _<_, _≤_}
+use native.Mathlib.Omega.{arith}
+use lib.Dec.{eqb}
+use lib.ListN.{length, getD, length-replicate, getD-replicate}
+use lib.Seq.{ext-getD}
+use borrow.Author.Tests.{eqb-true, eqb-false}
+use Rattle.code.specs.Settings.{Settings, settings-refusal, check-count, value-size}
+use Rattle.code.specs.Vector.{plane, is-vector, has-checks, differ-values}
+use Rattle.code.specs.Repair.{Repaired, No-repair}
+use Rattle.code.specs.Entry.{values-in}
+use Rattle.code.specs.Promise.{One-near, Repairs}
+use Rattle.code.proofs.Bytes.{Bytes}
+use Rattle.code.proofs.Word.{word-of}
+use Rattle.code.proofs.Near.{one-near}
+use Rattle.code.proofs.Vector.{Values, vector-of, vector-back, plane-length, planes-same, checked-of, repairs}
+use Rattle.code.proofs.Cut.{cut-length}
+use Rattle.grading.specs.Value.{Value, Vector, Rows, blanks}
+use Rattle.grading.specs.Count.{agreed-vector, held-list}
+use Rattle.grading.proofs.Value.{blank-size}
+use Rattle.record.specs.Frame.{checks-in}
+use Rattle.record.specs.Record.{Rec, found-as, counted, next-round}
+use Rattle.rounds.specs.Exchange.{Row, Table, Closed}
+
+-- n values, each of the size of a value
+pub record Sized (s : Settings) (vs : Vector) : Type 0 where
+  pub many : length vs ≡ s .n
+  pub each : (j : ℕ) → j < s .n → length (getD vs j []) ≡ value-size s
+
+value-length : (w : ℕ) (vs : Vector) → Values w vs → (j : ℕ) → j < length vs → length (getD vs j []) ≡ w
+value-length w [] l j h = absurd (omega arith)
+value-length w (v ∷ vs) l zero h = l .0
+value-length w (v ∷ vs) l (suc j) h = value-length w vs (l .2) j (omega arith)
+
+pub vector-sized : (s : Settings) (vs : Vector) → is-vector s vs ≡ true → Sized s vs
+vector-sized s vs e =
+    let v = vector-of s vs e in record { many = v .many; each = λ j h. value-length (value-size s) vs (v .values) j (rw (v .many) h) }
+
+blanks-sized : (s : Settings) → Sized s (blanks s)
+unfolding blanks
+blanks-sized s =
+    record { many = length-replicate (s .n) _; each = λ j h. ap length (getD-replicate (s .n) j _ [] h) ∙ blank-size s }
+
+pub row-sized : (s : Settings) (vs : Vector) (f : Option (List ℕ)) (row : Vector) → Row s vs f row → Sized s row
+unfolding Row
+row-sized s vs none row r = rw r (blanks-sized s)
+row-sized s vs (some x) row (inl r) = vector-sized s row (r .vector)
+row-sized s vs (some x) row (inr r) = rw (r .1) (blanks-sized s)
+
+pub row-alike :
+    (row : Vector) {s u : Settings} {vs ws : Vector} {f g : Option (List ℕ)} → s ≡ u → vs ≡ ws → f ≡ g → Row s vs f row → Row u ws g row
+row-alike row {s} {u} {vs} {ws} {f} {g} d e h r =
+    subst (λ (x : Settings). Row x ws g row) d (subst (λ (x : Vector). Row s x g row) e (subst (λ (x : Option (List ℕ)). Row s vs x row) h r))
+
+-- every row of a table is its own or another's
+pub table-rows :
+    (P : ℕ → Vector → Type 0) (r : Rec) (vs : Vector) (rows : Rows) → 1 ≤ r .who .number → Table r vs rows → P (r .who .number - 1) vs →
+    ((j : ℕ) (row : Vector) → j < r .who .settings .n → (suc j ≡ r .who .number → ⊥) → Row (r .who .settings) vs (counted r (suc j)) row → row ≡ getD rows j [] → P j row) →
+    (j : ℕ) → j < r .who .settings .n → P j (getD rows j [])
+table-rows P r vs rows low t own other j h = go (eqb (suc j) (r .who .number)) refl
+  where
+    go : (q : Bool) → eqb (suc j) (r .who .number) ≡ q → P j (getD rows j [])
+    go true e =
+        let mine : j ≡ r .who .number - 1 = omega (arith, eqb-true (suc j) (r .who .number) e) in
+        rw mine (rw (t .own-row) own)
+    go false e =
+        let back : suc j - 1 ≡ j = omega arith in
+        let different = eqb-false (suc j) (r .who .number) e in
+        other j (getD rows j []) h different (rw back at (t .others (suc j) (omega arith) h different)) refl
+
+pub table-sized : (r : Rec) (vs : Vector) (rows : Rows) → 1 ≤ r .who .number → Sized (r .who .settings) vs → Table r vs rows → (j : ℕ) → j < r .who .settings .n → Sized (r .who .settings) (getD rows j [])
+table-sized r vs rows low v t j h =
+    table-rows (λ i row. Sized (r .who .settings) row) r vs rows low t v (λ i row l d x e. row-sized (r .who .settings) vs _ row x) j h
+
+-- repair has one answer
+checks-length : (s : Settings) (x : List ℕ) → length (checks-in s x) ≡ check-count s
+unfolding checks-in values-in
+checks-length s x = cut-length (check-count s) (value-size s) x
+
+pub repaired-unique :
+    (s : Settings) (vs cs us ws : Vector) → settings-refusal s ≡ 0 → length vs ≡ s .n → length cs ≡ check-count s → Repaired s vs cs us → Repaired s vs cs ws →
+    us ≡ ws
+unfolding One-near
+repaired-unique s vs cs us ws fine e f a b =
+    let u = vector-of s us (a .vector) in
+    let w = vector-of s ws (b .vector) in
+    planes-same (value-size s) us ws (u .many ∙ sym (w .many)) (u .values) (w .values)
+    (λ p h. one-near s (plane p vs) (plane p cs) (plane p us) (a .planes p h .0) (plane p ws) (b .planes p h .0) fine (plane-length p vs ∙ e)
+    (plane-length p cs ∙ f) (a .planes p h .1) (b .planes p h .1) .0)
+
+pub repaired-or-none : (s : Settings) (vs cs us : Vector) → Repaired s vs cs us → No-repair s vs cs → ⊥
+repaired-or-none s vs cs us a b =
+    let near = a .planes (b .at-plane) (b .inside) in b .none-near (plane (b .at-plane) us) (near .0) (near .1)
+
+pub row-unique :
+    (s : Settings) (vs : Vector) (f : Option (List ℕ)) (row other : Vector) → settings-refusal s ≡ 0 → length vs ≡ s .n → Row s vs f row → Row s vs f other →
+    row ≡ other
+unfolding Row
+row-unique s vs none row other fine e a b = a ∙ sym b
+row-unique s vs (some x) row other fine e (inl a) (inl b) = repaired-unique s vs (checks-in s x) row other fine e (checks-length s x) a b
+row-unique s vs (some x) row other fine e (inl a) (inr b) = absurd (repaired-or-none s vs _ row a (b .0))
+row-unique s vs (some x) row other fine e (inr a) (inl b) = absurd (repaired-or-none s vs _ other b (a .0))
+row-unique s vs (some x) row other fine e (inr a) (inr b) = a .1 ∙ sym (b .1)
+
+pub table-unique :
+    (r : Rec) (vs : Vector) (rows others : Rows) → settings-refusal (r .who .settings) ≡ 0 → 1 ≤ r .who .number → length vs ≡ r .who .settings .n → Table r vs rows →
+    Table r vs others → rows ≡ others
+table-unique r vs rows others fine low e a b =
+    ext-getD [] rows others (a .many ∙ sym (b .many))
+    (λ j h.
+    table-rows (λ i row. row ≡ getD others i []) r vs rows low a (sym (b .own-row))
+    (λ i row l d x f.
+    (let back : suc i - 1 ≡ i = omega arith in
+    row-unique (r .who .settings) vs _ row (getD others i []) fine e x (rw back at (b .others (suc i) (omega arith) l d))))
+    j (rw (a .many) at h))
+
+-- and so a round closed has one outcome
+pub closed-unique :
+    (m : ℕ) (r q z : Rec) → settings-refusal (r .who .settings) ≡ 0 → 1 ≤ r .who .number → (m ≡ 2 → length (r .found .heard) ≡ r .who .settings .n) →
+    (m ≡ 3 → length (r .found .agreed) ≡ r .who .settings .n) → Closed m r q → Closed m r z → q ≡ z
+unfolding Closed
+closed-unique zero r q z fine low v y a b = a ∙ sym b
+closed-unique (suc zero) r q z fine low v y a b = a ∙ sym b
+closed-unique (suc (suc zero)) r q z fine low v y a b =
+    a .2
+    ∙ ap (λ (rows : Rows). next-round r (found-as (r .found .heard) (agreed-vector (r .who .settings) rows) []))
+    (table-unique r (r .found .heard) (a .0) (b .0) fine low (v refl) (a .1) (b .1))
+    ∙ sym (b .2)
+closed-unique (suc (suc (suc zero))) r q z fine low v y a b =
+    a .2
+    ∙ ap (λ (rows : Rows). next-round r (found-as (r .found .heard) (r .found .agreed) (held-list (r .who .settings) rows)))
+    (table-unique r (r .found .agreed) (a .0) (b .0) fine low (y refl) (a .1) (b .1))
+    ∙ sym (b .2)
+closed-unique (suc (suc (suc (suc m)))) r q z fine low v y a b = a ∙ sym b
+
+-- what has check values, and values of the right size, is a vector
+bytes-of-planes : (w : ℕ) (vs : Vector) → ((j : ℕ) → j < length vs → length (getD vs j []) ≡ w) → ((p : ℕ) → p < w → Bytes (plane p vs)) → Values w vs
+unfolding plane
+bytes-of-planes w [] h b = tt
+bytes-of-planes w (v ∷ vs) h b =
+    let e = h 0 (omega arith) in
+    (e, bytes v (λ p l. b p (rw e at l) .0), bytes-of-planes w vs (λ j l. h (suc j) (omega arith)) (λ p l. b p l .1))
+  where
+    bytes : (u : Value) → ((p : ℕ) → p < length u → getD u p 0 < 256) → Bytes u
+    bytes [] g = tt
+    bytes (x ∷ u) g = (g 0 (omega arith), bytes u (λ p l. g (suc p) (omega arith)))
+
+pub checked-vector : (s : Settings) (vs cs : Vector) → has-checks s vs cs ≡ true → Sized s vs → is-vector s vs ≡ true
+checked-vector s vs cs e v =
+    let c = checked-of s vs cs e in
+    vector-back s vs
+    (record {
+      many = v .many;
+      values =
+          bytes-of-planes (value-size s) vs (λ j h. v .each j (rw (v .many) at h)) (λ p h. word-of s (plane p vs) (plane p cs) (c .planes p h) .shape .bytes);
+    })
+
+-- the row that a sender's checks give is the sender's vector
+pub row-of-sender :
+    (s : Settings) (vs us : Vector) (x : List ℕ) (row : Vector) → settings-refusal s ≡ 0 → is-vector s vs ≡ true → is-vector s us ≡ true →
+    has-checks s us (checks-in s x) ≡ true → differ-values vs us ≤ s .t → Row s vs (some x) row → row ≡ us
+unfolding Repairs Row
+row-of-sender s vs us x row fine v u c d w =
+    row-unique s vs (some x) row us fine (vector-of s vs v .many) w (inl (repairs s vs us (checks-in s x) fine v u c d))

@@ -1,0 +1,142 @@
+-- The row that a sender's frame gives. Repair by the difference from the own checks is repair, as the own checks are the vector's; what
+-- it leaves in front of a row of zeros is the repaired vector, or, where there is none, the zeros, which are blanks. Assumes nothing.
+use mathlib.Core.Path.{_≡_, refl, sym, _∙_, ap, ap₂, subst}
+use mathlib.Core.Bool.{true}
+use mathlib.Core.List.{List, [], _∷_, _++_, map, append-assoc}
+use mathlib.Core.Logic.{inl, inr}
+use mathlib.Core.Option.{some}
+use Prim.Native.Nat.{ℕ, zero, suc, _+_, _*_, _-_, _≤_}
+use native.Mathlib.Nat.{suc-mul}
+use native.Mathlib.Omega.{arith}
+use lib.ListN.{length, take, drop, replicate, length-drop, take-append-drop}
+use lib.Seq.{length-take-le}
+use borrow.Author.Tests.{eq-eqb, le-ltb}
+use mir.Syntax.{w8}
+use mir.Val.{WT, vint}
+use denote.Array.{arrayVal}
+use Rattle.code.specs.Settings.{Settings, settings, settings-refusal, check-count, value-size}
+use Rattle.code.specs.Vector.{is-vector, are-checks, has-checks, cut, glued}
+use Rattle.code.specs.Entry.{values-in, in-front}
+use Rattle.code.proofs.Bytes.{Bytes, and-both}
+use Rattle.code.proofs.Cut.{cut-length, cut-values, value-fits, values-fit}
+use Rattle.code.proofs.Vector.{vector-of, values-back}
+use Rattle.code.proofs.Word.{sizes}
+use Rattle.repair.specs.Entry.{Done, Done-by, repair-refusal, repair-by-refusal, Repair-by-as, Repair-by-says, By-own-checks}
+use Rattle.repair.proofs.ByOwnChecks.{by-own-checks}
+use Rattle.grading.specs.Value.{blank, blanks}
+use Rattle.grading.proofs.Value.{take-replicate}
+use Rattle.counting.proofs.Placed.{cut-at}
+use Rattle.record.specs.Frame.{checks-in}
+use Rattle.rounds.specs.Exchange.{Row}
+use Rattle.rounds.proofs.Rows.{Sized, checked-vector}
+use Rattle.record.proofs.Size.{checks-fit}
+use Rattle.record.proofs.Front.{cut-glued, cut-front}
+
+-- an array of bytes in a struct holds bytes
+pub bytes-typed : (xs : List ℕ) → WT (arrayVal (map (vint w8) (map (λ x. x) xs))) → Bytes xs
+bytes-typed [] t = tt
+bytes-typed (x ∷ xs) t = (t .0 .fits, bytes-typed xs (t .1))
+
+-- a vector and its check values have room in their arrays
+pub vector-fits : (n t w : ℕ) → settings-refusal (settings n t w) ≡ 0 → n * w ≤ 256
+unfolding settings
+vector-fits n t w e = let few = sizes (settings n t w) e in values-fit n w (few .few-columns) (few .few-bytes)
+
+pub operand-fits : (n t w : ℕ) → settings-refusal (settings n t w) ≡ 0 → 2 * t * w ≤ 160
+unfolding settings
+operand-fits n t w e = let few = sizes (settings n t w) e in checks-fit t w (omega (arith, few)) (few .few-bytes)
+
+-- zeros are blanks
+drop-replicate : {A : Type 0} (m n : ℕ) (x : A) → drop m (replicate (m + n) x) ≡ replicate n x
+drop-replicate zero n x = ap (λ (k : ℕ). replicate k x) (let e : zero + n ≡ n = omega arith in e)
+drop-replicate (suc m) n x = ap (λ (k : ℕ). drop (suc m) (replicate k x)) (let e : suc m + n ≡ suc (m + n) = omega arith in e) ∙ drop-replicate m n x
+
+cut-zeros : (n w rest : ℕ) → cut n w (replicate (n * w + rest) 0) ≡ replicate n (replicate w 0)
+unfolding cut
+cut-zeros zero w rest = refl
+cut-zeros (suc n) w rest =
+    let e : suc n * w + rest ≡ w + (n * w + rest) = omega (arith, suc-mul n w) in
+    rw e
+    (ap₂ _∷_ (take-replicate w (w + (n * w + rest)) 0 (omega arith)) (ap (cut n w) (drop-replicate w (n * w + rest) 0) ∙ cut-zeros n w rest))
+
+pub zeros-blanks : (s : Settings) (many : ℕ) → s .n * value-size s ≤ many → values-in s (s .n) (replicate many 0) ≡ blanks s
+unfolding values-in blanks blank
+zeros-blanks s many h =
+    ap (λ (k : ℕ). cut (s .n) (value-size s) (replicate k 0)) (let e : many ≡ s .n * value-size s + (many - s .n * value-size s) = omega arith in e)
+    ∙ cut-zeros (s .n) (value-size s) (many - s .n * value-size s)
+
+-- values cut from enough bytes
+pub cut-sized : (s : Settings) (bs : List ℕ) → s .n * value-size s ≤ length bs → Sized s (values-in s (s .n) bs)
+unfolding values-in
+cut-sized s bs h =
+    record {
+      many = cut-length (s .n) (value-size s) bs;
+      each = λ j l. ap length (cut-at (s .n) (value-size s) bs j l) ∙ length-take-le (value-size s) _ (let f = value-fits j (s .n) (value-size s) l in omega (arith, length-drop (j * value-size s) bs));
+    }
+
+-- what repair leaves in front of a row of blanks
+module _ (s : Settings) (vs : List (List ℕ)) (x row : List ℕ) (empty : values-in s (s .n) row ≡ blanks s) where
+  abbrev size : ℕ
+  size = s .n * value-size s
+
+  done-row : (r : ℕ) (z : List ℕ) → Done s vs (checks-in s x) r (take size row) z → Row s vs (some x) (values-in s (s .n) (z ++ drop size row))
+  unfolding Done Row values-in in-front
+  done-row r z (inl d) =
+      let us = d .1 .0 in
+      let v = vector-of s us (d .1 .1 .vector) in
+      let rest = drop (length (glued us)) (take size row) in
+      let e : cut (s .n) (value-size s) (z ++ drop size row) ≡ us =
+      ap (λ (bs : List ℕ). cut (s .n) (value-size s) (bs ++ drop size row)) (d .1 .2) ∙ ap (cut (s .n) (value-size s)) (append-assoc (glued us) rest _)
+      ∙ ap (λ (k : ℕ). cut k (value-size s) (glued us ++ (rest ++ drop size row))) (sym (v .many)) ∙ cut-glued (value-size s) us _ (v .values) in
+      inl (rw e (d .1 .1))
+  done-row r z (inr d) =
+      inr
+      (d .1, ap (λ (bs : List ℕ). cut (s .n) (value-size s) (bs ++ drop size row)) (d .2) ∙ ap (cut (s .n) (value-size s)) (take-append-drop size row) ∙ empty)
+
+-- repair is not refused
+fine-by :
+    (s : Settings) (v d c k : ℕ) → settings-refusal s ≡ 0 → v ≡ s .n * value-size s → d ≡ check-count s * value-size s → c ≡ check-count s * value-size s →
+    s .n * value-size s ≤ k → repair-by-refusal s v d c k ≡ 0
+unfolding repair-by-refusal repair-refusal
+fine-by s v d c k fine e f g h =
+    rw (
+      fine,
+      eq-eqb v (s .n * value-size s) e,
+      eq-eqb c (check-count s * value-size s) g,
+      le-ltb k (s .n * value-size s) h,
+      eq-eqb d (check-count s * value-size s) f,
+    )
+
+received-checks : (s : Settings) (x : List ℕ) → check-count s * value-size s ≤ length x → Bytes x → are-checks s (checks-in s x) ≡ true
+unfolding are-checks checks-in values-in
+received-checks s x h b =
+    and-both (eq-eqb _ _ (cut-length (check-count s) (value-size s) x)) (values-back (value-size s) _ (cut-values (check-count s) (value-size s) x h b))
+
+-- the row of a frame, whose checks are x
+module _ (n t w : ℕ) (vector own x row : List ℕ) (fine : settings-refusal (settings n t w) ≡ 0) (long : n * w ≤ length vector) (own-long : 2 * t * w ≤ length own)
+    (x-long : length x ≡ 2 * t * w) (x-bytes : Bytes x)
+    (checked : has-checks (settings n t w) (values-in (settings n t w) n vector) (checks-in (settings n t w) (take (2 * t * w) own)) ≡ true)
+    (row-long : n * w ≤ length row) (empty : values-in (settings n t w) n row ≡ blanks (settings n t w)) where
+  pub repaired-row :
+      (r : ℕ) (z : List ℕ) → Repair-by-says n t w (take (n * w) vector) (take (2 * t * w) own) x r (take (n * w) row) z →
+      Row (settings n t w) (values-in (settings n t w) n vector) (some x) (values-in (settings n t w) n (z ++ drop (n * w) row))
+  unfolding Repair-by-says Repair-by-as By-own-checks values-in checks-in settings check-count value-size
+  repaired-row r z says = done-row s (values-in s n vector) x row empty r z (by-own-checks s _ _ _ r _ z vector-fine checked checks-fine done)
+    where
+      s : Settings
+      s = settings n t w
+
+      vector-fine : is-vector s (values-in s n vector) ≡ true
+      vector-fine = checked-vector s _ _ checked (cut-sized s vector long)
+
+      checks-fine : are-checks s (checks-in s x) ≡ true
+      checks-fine = received-checks s x (omega (arith, x-long)) x-bytes
+
+      taken : Repair-by-as 0 s (take (n * w) vector) (take (2 * t * w) own) x r (take (n * w) row) z
+      taken =
+          subst (λ (k : ℕ). Repair-by-as k s (take (n * w) vector) (take (2 * t * w) own) x r (take (n * w) row) z)
+          (fine-by s _ _ _ _ fine (length-take-le (n * w) vector long) (length-take-le (2 * t * w) own own-long) x-long
+          (let l = length-take-le (n * w) row row-long in omega arith)) says
+
+      done : Done-by s (values-in s n vector) (checks-in s (take (2 * t * w) own)) (checks-in s x) r (take (n * w) row) z
+      done = subst (λ (vs : List (List ℕ)). Done-by s vs (checks-in s (take (2 * t * w) own)) (checks-in s x) r (take (n * w) row) z) (cut-front n w vector) taken

@@ -1,0 +1,20 @@
+-- What the steps of a closing compute. Assumes nothing: these are definitions.
+use mathlib.Core.Path.{_≡_}
+use mathlib.Core.Bool.{cond}
+use mathlib.Core.List.{List}
+use Prim.Native.Nat.{ℕ}
+use lib.Dec.{eqb}
+use Rattle.rounds.specs.Exchange.{Closed}
+use Rattle.record.specs.View.{view}
+use Rattle.record.specs.Stored.{found-now, one-on}
+use Rattle.record.specs.declared.Findings.{Findings}
+use Rattle.record.specs.declared.Column.{Column}
+
+-- the array of the vector whose checks go round: V's in round two, Y's in round three
+unfoldable pub checked-in : (round : ℕ) → Findings → List ℕ
+checked-in m f = cond (eqb m 2) (f .heard) (f .agreed)
+
+-- what a column has found when its round is closed
+pub record Finds (c : Column) (f : Findings) : Type 0 where
+  pub reads : Closed (c .round) (view c) (view (one-on c f))
+  pub bytes : f ≡ found-now (c .round) (c .found) (view (one-on c f) .found)

@@ -1,0 +1,110 @@
+// The table of a round: for each sender the own vector, repaired by the checks that came in its frame.
+ghost use mathlib.Core.Path.{_≡_};
+ghost use mathlib.Core.Bool.{true, false};
+ghost use Prim.Native.Nat.{_*_};
+ghost use lib.ListN.{length};
+ghost use Rattle.code.specs.Settings.{settings, settings-refusal, check-count, value-size};
+ghost use Rattle.code.specs.Size.{vector-room};
+ghost use Rattle.code.specs.Vector.{has-checks};
+ghost use Rattle.code.specs.Entry.{values-in};
+ghost use Rattle.record.specs.Frame.{checks-in};
+ghost use Rattle.rounds.specs.Steps.Senders.{coded-settings, coded-vector, Coded-right, Slot-row, Slot-rows};
+use code::sizes::CHECKS_ROOM;
+use code::sizes::MOST_COLUMNS;
+use code::sizes::VALUE_ROOM;
+use code::sizes::VECTOR_ROOM;
+use counting::filling;
+use counting::table::Table;
+use record::HEADER;
+use record::Slot;
+
+// The check values of a vector that stands in the front of an array.
+pub fn put_checks(n: u32, t: u32, w: u32, values: &[u8], operand: &mut [u8])
+    requires { ⌜ (settings-refusal (settings n t w) ≡ 0) × (length (now values) ≡ vector-room) × (length (now operand) ≡ check-count (settings n t w) * value-size (settings n t w)) ⌝ }
+    ensures { λ _. ⌜ has-checks (settings n t w) (values-in (settings n t w) n (now (values .entry))) (checks-in (settings n t w) (now (operand .exit))) ≡ true ⌝ }
+{
+    let end = (n * w) as usize;
+    code::check_values(n, t, w, &values[..end], operand);
+}
+
+// A vector and its check values, both from the front of their array on.
+pub struct Coded {
+    pub n: u32,
+    pub t: u32,
+    pub w: u32,
+    pub vector: [u8; VECTOR_ROOM],
+    pub checks: [u8; CHECKS_ROOM],
+}
+
+pub fn with_checks(n: u32, t: u32, w: u32, vector: [u8; VECTOR_ROOM]) -> Coded
+    requires { ⌜ settings-refusal (settings n t w) ≡ 0 ⌝ }
+    ensures { λ r. ⌜ Coded-right r × (coded-settings r ≡ settings n t w) × (coded-vector r ≡ values-in (settings n t w) n vector) ⌝ }
+{
+    let mut checks = [0u8; CHECKS_ROOM];
+    let end = (2 * t * w) as usize;
+    put_checks(n, t, w, &vector, &mut checks[..end]);
+    Coded {
+        n,
+        t,
+        w,
+        vector,
+        checks,
+    }
+}
+
+// The row of a sender: a missing frame gives blanks, and so does "none", which leaves the row as it was.
+fn repaired(own: Coded, slot: Slot) -> [u8; VECTOR_ROOM]
+    requires { ⌜ Coded-right own ⌝ }
+    ensures { λ r. ⌜ Slot-row (coded-settings own) (coded-vector own) false slot (values-in (coded-settings own) (own .n) r) ⌝ }
+{
+    let mut row = [0u8; VECTOR_ROOM];
+    if slot.taken == 0 {
+        return row;
+    }
+    let size = (own.n * own.w) as usize;
+    let count = (2 * own.t * own.w) as usize;
+    let end = HEADER + count;
+    let vector = own.vector;
+    let own_checks = own.checks;
+    let frame = slot.bytes;
+    repair::repair_by(
+        own.n,
+        own.t,
+        own.w,
+        &vector[..size],
+        &own_checks[..count],
+        &frame[HEADER..end],
+        &mut row[..size],
+    );
+    row
+}
+
+// The row of a slot, which may be the column's own.
+fn slot_row(own: Coded, mine: bool, slot: Slot) -> [u8; VECTOR_ROOM]
+    requires { ⌜ Coded-right own ⌝ }
+    ensures { λ r. ⌜ Slot-row (coded-settings own) (coded-vector own) mine slot (values-in (coded-settings own) (own .n) r) ⌝ }
+{
+    if mine {
+        let vector = own.vector;
+        return vector;
+    }
+    repaired(own, slot)
+}
+
+// The table of a column with this number.
+pub fn table_of(own: Coded, number: usize, slots: [Slot; MOST_COLUMNS]) -> Table
+    requires { ⌜ Coded-right own ⌝ }
+    ensures { λ r. ⌜ Slot-rows (coded-settings own) (coded-vector own) number slots r ⌝ }
+{
+    let n = own.n as usize;
+    let w = own.w as usize;
+    let mut table = [[[0u8; MOST_COLUMNS]; MOST_COLUMNS]; VALUE_ROOM];
+    let mut i = 0;
+    while i < n {
+        let slot = slots[i];
+        let row = slot_row(own, i + 1 == number, slot);
+        filling::put_row(&mut table, i, &row, n, w);
+        i += 1;
+    }
+    table
+}
