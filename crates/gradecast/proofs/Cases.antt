@@ -3,22 +3,22 @@
 use mathlib.Core.Path.{_≡_, refl, sym}
 use mathlib.Core.Bool.{false, cond}
 use mathlib.Core.List.{List, [], _∷_}
-use Prim.Native.Nat.{ℕ, zero, suc, _<_, _≤_}
+use Prim.Native.Nat.{ℕ, zero, suc, _≤_}
 use native.Mathlib.Omega.{arith}
 use lib.Dec.{leb}
 use lib.ListN.{length}
 use borrow.Author.Tests.{eq-eqb, le-leb}
 use Rattle.code.specs.Settings.{settings, settings-refusal, value-size}
-use Rattle.code.specs.Plane.{byte-list}
 use Rattle.code.specs.Vector.{same}
-use Rattle.counting.specs.Value.{Value, Vector, blank, is-blank, bytes-before, entries}
-use Rattle.counting.specs.Held.{held-as}
-use Rattle.counting.specs.Count.{found, better, most-from, most, agreed-at, agreed-vector, held-of, held-at, held-list}
-use Rattle.column.specs.Record.{Rec, opened, next-round}
-use Rattle.column.specs.Refusal.{first-of, number-refusal, size-refusal, blank-refusal, round-refusal, open-refusal, record-refusal, close-refusal}
-use Rattle.column.specs.Exchange.{Table, heard-at, heard-vector}
-use Rattle.column.specs.Call.{Call, closing, Closed, Leads, After-close, Run, no-call, one-call}
-use Rattle.gradecast.specs.Promise.{Good, numbers, member, all-different, Among, first, Ran, holds, Gradecast}
+use Rattle.grading.specs.Value.{Value, Vector, blank, is-blank, bytes-before, entries}
+use Rattle.grading.specs.Held.{held-as}
+use Rattle.grading.specs.Count.{agreed-least, sure-least, found, better, most-from, most, agreed-at, agreed-vector, held-of, held-at, held-list}
+use Rattle.record.specs.Record.{Rec, who-as, found-as, opened, next-round}
+use Rattle.record.specs.Refusal.{line, first-of, number-refusal, size-refusal, blank-refusal, round-refusal, open-refusal, record-refusal, close-refusal}
+use Rattle.rounds.specs.Exchange.{Table, heard-at, heard-vector, Closed}
+use Rattle.column.specs.Call.{Call, closing, Leads, After-close, Run, no-call, one-call}
+use Rattle.grading.specs.Promise.{member, all-different}
+use Rattle.gradecast.specs.Promise.{Good, numbers, Among, first, Ran, holds, Gradecast}
 use Rattle.gradecast.proofs.Gradecast.{gradecast}
 
 -- n = 3, t = 1
@@ -28,7 +28,7 @@ three-refused w k v = refl
 
 -- n = 4, t = 1
 pub four-opens : (w k : ℕ) (v : Value) → 1 ≤ w → w ≤ 8 → 1 ≤ k → k ≤ 4 → length v ≡ w → is-blank v ≡ false → open-refusal (settings 4 1 w) k v ≡ 0
-unfolding open-refusal first-of settings settings-refusal number-refusal size-refusal blank-refusal
+unfolding open-refusal first-of line settings settings-refusal number-refusal size-refusal blank-refusal
 four-opens w k v a b c d e f =
     rw (le-leb 1 w a, le-leb w 8 b) (rw (le-leb 1 k c, le-leb k 4 d) (rw (eq-eqb (length v) w e) (rw f refl)))
 
@@ -37,13 +37,18 @@ only-among : {g : Good} (P : Good → Type 0) (a : Good) → P g → Among a (g 
 only-among P a p (first gs) = p
 
 pub alone-holds :
-    (run : ℕ) (cs : List Call) (last : Rec) → run < 65536 → Run (opened (settings 1 0 1) 1 run (7 ∷ [])) cs last → last .round ≡ 4 →
+    (run : ℕ) (cs : List Call) (last : Rec) → Run (opened (settings 1 0 1) 1 run (7 ∷ [])) cs last → last .round ≡ 4 →
     holds (record { number = 1; own = 7 ∷ []; calls = cs; last = last }) 1 ≡ held-as (7 ∷ []) 2
-unfolding Gradecast settings settings-refusal numbers member all-different open-refusal first-of number-refusal size-refusal blank-refusal is-blank byte-list
-alone-holds run cs last small runs e =
-    gradecast (settings 1 0 1) run (g ∷ []) g g g refl small refl (omega arith) (first []) (first []) (first [])
-    (λ a i. only-among (Ran (settings 1 0 1) run) a (record { open-good = refl; own-bytes = refl; leads = runs }) i)
-    (λ a b i j d. absurd (d (only-among (λ x. x .number ≡ b .number) a (only-among (λ y. 1 ≡ y .number) b refl j) i))) e e .own
+unfolding Gradecast settings settings-refusal numbers member all-different open-refusal first-of line number-refusal size-refusal blank-refusal is-blank
+alone-holds run cs last runs e =
+    gradecast (settings 1 0 1) run (g ∷ []) g g g
+    (record {
+      different = refl;
+      enough = omega arith;
+      ran = λ a i. only-among (Ran (settings 1 0 1) run) a (record { opens = refl; leads = runs }) i;
+      fair = λ a b i j d. absurd (d (only-among (λ x. x .number ≡ b .number) a (only-among (λ y. 1 ≡ y .number) b refl j) i));
+    })
+    (first []) (first []) (first []) e e .own-value .0
   where
     g : Good
     g = record { number = 1; own = 7 ∷ []; calls = cs; last = last }
@@ -52,15 +57,20 @@ alone-holds run cs last small runs e =
 unfoldable pub alone : (m run : ℕ) → Rec
 alone zero run = opened (settings 1 0 1) 1 run (7 ∷ [])
 alone (suc m) run =
-    next-round (alone m run) ((7 ∷ []) ∷ []) (cond (leb 1 m) ((7 ∷ []) ∷ []) []) (cond (leb 2 m) (held-as (7 ∷ []) 2 ∷ []) [])
+    next-round (alone m run)
+    (found-as ((7 ∷ []) ∷ []) (cond (leb 1 m) ((7 ∷ []) ∷ []) []) (cond (leb 2 m) (held-as (7 ∷ []) 2 ∷ []) []))
 
-own-table : (r : Rec) (v : Vector) → r .settings .n ≡ 1 → r .number ≡ 1 → Table r v (v ∷ [])
+own-table : (r : Rec) (v : Vector) → r .who .settings .n ≡ 1 → r .who .number ≡ 1 → Table r v (v ∷ [])
 own-table r v e f =
-    record { many = sym e; own-row = rw f refl; others = λ k a b other. absurd (other (let one : k ≡ r .number = omega arith in one)) }
+    record { many = sym e; own-row = rw f refl; others = λ k a b other. absurd (other (let one : k ≡ r .who .number = omega arith in one)) }
 
 pub alone-finishes : (run : ℕ) → Run (opened (settings 1 0 1) 1 run (7 ∷ [])) (closing ∷ closing ∷ closing ∷ []) (alone 3 run)
-unfolding alone Leads After-close Closed close-refusal record-refusal first-of settings settings-refusal number-refusal blank-refusal round-refusal is-blank opened next-round heard-vector heard-at entries agreed-vector agreed-at held-list held-at held-of held-as most most-from better found same blank value-size bytes-before
+unfolding alone Leads After-close Closed close-refusal record-refusal first-of line settings settings-refusal number-refusal blank-refusal round-refusal is-blank opened who-as found-as next-round heard-vector heard-at entries agreed-vector agreed-at held-list held-at held-of held-as most most-from better found same blank value-size bytes-before agreed-least sure-least
 alone-finishes run =
     one-call (alone 0 run) (alone 1 run) (alone 3 run) closing _ refl
     (one-call (alone 1 run) (alone 2 run) (alone 3 run) closing _ (((7 ∷ []) ∷ []) ∷ [], own-table (alone 1 run) ((7 ∷ []) ∷ []) refl refl, refl)
     (one-call (alone 2 run) (alone 3 run) (alone 3 run) closing _ (((7 ∷ []) ∷ []) ∷ [], own-table (alone 2 run) ((7 ∷ []) ∷ []) refl refl, refl) (no-call (alone 3 run))))
+
+pub alone-ends-in-four : (run : ℕ) → alone 3 run .round ≡ 4
+unfolding alone next-round opened
+alone-ends-in-four run = refl

@@ -2,15 +2,25 @@
 -- each of their numbers, and what they have can be asked for by number. Assumes nothing.
 use mathlib.Core.Path.{_≡_, refl, sym, _∙_, ap, subst}
 use mathlib.Core.Bool.{Bool, true, false, cond, _||_, not}
-use mathlib.Core.List.{List, [], _∷_}
+use mathlib.Core.List.{List, [], _∷_, map}
 use Prim.Native.Nat.{ℕ, suc}
 use lib.Dec.{eqb}
 use lib.ListN.{length}
 use borrow.Author.Tests.{eqb-true, eq-eqb, ne-eqb, not-true}
 use Rattle.code.proofs.Bytes.{and-split}
-use Rattle.gradecast.specs.Promise.{Good, numbers, member, all-different, Among, first, other}
-use Rattle.counting.proofs.Bool.{true-not-false}
-use Rattle.gradecast.proofs.Count.{member-here, member-there}
+use Rattle.grading.specs.Promise.{member, all-different}
+use Rattle.gradecast.specs.Promise.{Good, numbers, Among, first, other}
+use Rattle.grading.proofs.Bool.{true-not-false}
+use Rattle.grading.proofs.Count.{member-here, member-there}
+
+-- one of a list under a function, and what holds of each of them
+pub among-map : {A B : Type 0} (f : A → B) {x : A} {xs : List A} → Among x xs → Among (f x) (map f xs)
+among-map f (first xs) = first (map f xs)
+among-map f (other y xs i) = other (f y) (map f xs) (among-map f i)
+
+pub each-map : {A B : Type 0} (f : A → B) (P : B → Type 0) (xs : List A) → ((x : A) → Among x xs → P (f x)) → (y : B) → Among y (map f xs) → P y
+each-map f P (x ∷ xs) h y (first ys) = h x (first xs)
+each-map f P (x ∷ xs) h y (other z ys i) = each-map f P xs (λ a j. h a (other x xs j)) y i
 
 -- one of the list, and its number
 pub among-member : {a : Good} {gs : List Good} → Among a gs → member (a .number) (numbers gs) ≡ true

@@ -8,15 +8,16 @@ use Prim.Native.Nat.{ℕ, _+_, _-_, _<_, _≤_}
 use native.Mathlib.Omega.{arith}
 use lib.ListN.{getD}
 use Rattle.code.specs.Settings.{Settings}
-use Rattle.counting.specs.Value.{Value, Vector, Rows, is-blank}
-use Rattle.counting.specs.Held.{Held, held-as}
-use Rattle.counting.specs.Count.{agreed-at, agreed-vector, held-at, held-list}
-use Rattle.counting.proofs.Value.{entries-at}
-use Rattle.gradecast.specs.Promise.{Good, numbers, member, Among, none-held, holds, Agree, Gradecast}
-use Rattle.gradecast.proofs.Agreement.{Carries, Agreed-from, Second, agreed-own, Graded, graded}
+use Rattle.grading.specs.Value.{Value, Vector, Rows, is-blank}
+use Rattle.grading.specs.Held.{Held, held-as}
+use Rattle.grading.specs.Count.{agreed-at, agreed-vector, held-at, held-list}
+use Rattle.grading.proofs.Value.{entries-at}
+use Rattle.grading.specs.Promise.{member, Carries, Agreed-from, Second, Graded, Grades-agree}
+use Rattle.gradecast.specs.Promise.{Among, Good, numbers, none-held, holds, Agree, Gradecast}
+use Rattle.grading.proofs.Agreement.{agreed-own, grades-agree}
 use Rattle.gradecast.proofs.Walk.{kept}
 use Rattle.gradecast.proofs.Goods.{among-member, of-number, of-number-is, by-number}
-use Rattle.gradecast.proofs.Handed.{Group, opens, numbered, one-or-two, proper, onward}
+use Rattle.gradecast.proofs.Handed.{Group, group-of, opens, numbered, one-or-two, proper, onward}
 use Rattle.gradecast.proofs.Rounds.{second, third, said, closed, heard-own, carries}
 
 agreed-entry : (s : Settings) (rows : Rows) (j : ℕ) → j < s .n → getD (agreed-vector s rows) j [] ≡ agreed-at s rows j
@@ -41,13 +42,13 @@ agreeds gs = of-number [] (said third) gs
 pub all-reached : {s : Settings} {run : ℕ} {gs : List Good} → Group s run gs → (g : Good) → Among g gs → g .last .round ≡ 4 → (a : Good) → Among a gs → 3 ≤ a .last .round
 all-reached group g i e a j =
     one-or-two group g a i j (λ f. (let finished : a .last .round ≡ 4 = rw f at e in omega arith))
-    (λ d. (let sent = group .fair g a i j d .sends 3 (omega arith) (omega arith) in omega (arith, kept (onward group a j (sent .3)) .up, sent .4)))
+    (λ d. (let sent = group .conditions .fair g a i j d .sends 3 (omega arith) (omega arith) in omega (arith, kept (onward group a j (sent .1 .on)) .up, sent .1 .in-round)))
 
 module _ {s : Settings} {run : ℕ} {gs : List Good} (group : Group s run gs) (reached : (a : Good) → Among a gs → 3 ≤ a .last .round) where
   heard-owns : (a b : Good) → Among a gs → Among b gs → getD (said second a) (b .number - 1) [] ≡ b .own
   heard-owns a b i j = heard-own group a b i j (omega (arith, reached a i))
 
-  agreed-from : (a : Good) → Among a gs → Agreed-from s (numbers gs) (heards gs) (a .last .agreed)
+  agreed-from : (a : Good) → Among a gs → Agreed-from s (numbers gs) (heards gs) (a .last .found .agreed)
   agreed-from a i =
       let x = closed group a i 2 (omega arith) (reached a i) in
       let y = x .way .two (x .in-round) in
@@ -67,20 +68,20 @@ module _ {s : Settings} {run : ℕ} {gs : List Good} (group : Group s run gs) (r
         heard-own =
             by-number (λ m. (k : ℕ) → member k (numbers gs) ≡ true → getD (heards gs m) (k - 1) [] ≡ owns gs k) gs
             (λ a i. by-number (λ k. getD (heards gs (a .number)) (k - 1) [] ≡ owns gs k) gs
-            (λ b j. ap (λ (v : Vector). getD v (b .number - 1) []) (of-number-is [] (said second) (group .different) i) ∙ heard-owns a b i j ∙ sym (own-of j)));
+            (λ b j. ap (λ (v : Vector). getD v (b .number - 1) []) (of-number-is [] (said second) (group .conditions .different) i) ∙ heard-owns a b i j ∙ sym (own-of j)));
         agreed-from =
             by-number (λ m. Agreed-from s (numbers gs) (heards gs) (agreeds gs m)) gs
-            (λ a i. subst (Agreed-from s (numbers gs) (heards gs)) (sym (of-number-is [] (said third) (group .different) i)) (agreed-from a i));
+            (λ a i. subst (Agreed-from s (numbers gs) (heards gs)) (sym (of-number-is [] (said third) (group .conditions .different) i)) (agreed-from a i));
       }
     where
       own-of : {a : Good} → Among a gs → owns gs (a .number) ≡ a .own
-      own-of i = of-number-is [] (λ a. a .own) (group .different) i
+      own-of i = of-number-is [] (λ a. a .own) (group .conditions .different) i
 
   agreed-owns : (a b : Good) → Among a gs → Among b gs → getD (said third a) (b .number - 1) [] ≡ b .own
   agreed-owns a b i j =
-      sym (ap (λ (v : Vector). getD v (b .number - 1) []) (of-number-is [] (said third) (group .different) i))
+      sym (ap (λ (v : Vector). getD v (b .number - 1) []) (of-number-is [] (said third) (group .conditions .different) i))
       ∙ agreed-own s (numbers gs) (numbered group) (owns gs) (heards gs) (agreeds gs) after-two (a .number) (among-member i) (b .number) (among-member j)
-      ∙ of-number-is [] (λ x. x .own) (group .different) j
+      ∙ of-number-is [] (λ x. x .own) (group .conditions .different) j
 
   -- what a good column holds, from its table of round three
   record Held-from (g : Good) : Type 0 where
@@ -103,7 +104,9 @@ module _ {s : Settings} {run : ℕ} {gs : List Good} (group : Group s run gs) (r
             ∙ held-entry s (y .0) (k - 1) (omega arith);
       }
 
-  agree : (g h x : Good) → Among g gs → Among h gs → Among x gs → g .last .round ≡ 4 → h .last .round ≡ 4 → Agree g h x s
+  agree : (g h x : Good) → Among g gs → Among h gs → Among x gs → g .last .round ≡ 4 → h .last .round ≡ 4 →
+      Agree (s .n) (holds g) (holds h) (x .number) (x .own)
+  unfolding Grades-agree
   agree g h x i j l e f =
       record {
         near = λ k u v. rw (g-table .entry k u v, h-table .entry k u v) (both .near (k - 1) (omega arith));
@@ -112,9 +115,7 @@ module _ {s : Settings} {run : ℕ} {gs : List Good} (group : Group s run gs) (r
             (let a = g-table .entry k u v in
             let b = h-table .entry k u v in
             ap (λ (y : Held). y .value) a ∙ both .values (k - 1) (omega arith) (rw a at p) (rw b at q) ∙ sym (ap (λ (y : Held). y .value) b));
-        own =
-            g-table .entry (x .number) (opens group x l .low) (opens group x l .high) ∙ both .own-held (x .number) (among-member l)
-            ∙ ap (λ (v : Value). held-as v 2) (of-number-is [] (λ y. y .own) (group .different) l);
+        own-value = (own-of g-table (both .own-held (x .number) (among-member l)), own-of h-table (back .own-held (x .number) (among-member l)));
       }
     where
       g-table : Held-from g
@@ -123,14 +124,20 @@ module _ {s : Settings} {run : ℕ} {gs : List Good} (group : Group s run gs) (r
       h-table : Held-from h
       h-table = held-from h j f
 
+      tables : (xs ys : Rows) → Carries s (numbers gs) (agreeds gs) xs → Carries s (numbers gs) (agreeds gs) ys → Graded s (numbers gs) (owns gs) xs ys
+      tables xs ys = grades-agree s (numbers gs) (owns gs) (heards gs) (agreeds gs) xs ys (numbered group) after-two
+
       both : Graded s (numbers gs) (owns gs) (g-table .rows) (h-table .rows)
-      both =
-          graded s (numbers gs) (numbered group) (owns gs) (heards gs) (agreeds gs) after-two (g-table .rows) (h-table .rows) (g-table .table) (h-table .table)
+      both = tables (g-table .rows) (h-table .rows) (g-table .table) (h-table .table)
+
+      back : Graded s (numbers gs) (owns gs) (h-table .rows) (g-table .rows)
+      back = tables (h-table .rows) (g-table .rows) (h-table .table) (g-table .table)
+
+      own-of : {a : Good} (t : Held-from a) → held-at s (t .rows) (x .number - 1) ≡ held-as (owns gs (x .number)) 2 → holds a (x .number) ≡ held-as (x .own) 2
+      own-of t q =
+          t .entry (x .number) (opens group x l .low) (opens group x l .high) ∙ q
+          ∙ ap (λ (v : Value). held-as v 2) (of-number-is [] (λ y. y .own) (group .conditions .different) l)
 
 pub gradecast : Gradecast
 unfolding Gradecast
-gradecast s run gs g h x fine small different many i j l ran fair e f =
-    agree group (all-reached group g i e) g h x i j l e f
-  where
-    group : Group s run gs
-    group = record { fine = fine; different = different; many = many; ran = ran; fair = fair }
+gradecast s run gs g h x c i j l e f = let group = group-of c g i in agree group (all-reached group g i e) g h x i j l e f

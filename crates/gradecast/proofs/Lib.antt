@@ -1,7 +1,3 @@
-pub mod Count
-pub mod Most
-pub mod Grade
-pub mod Agreement
 pub mod Proper
 pub mod Walk
 pub mod Goods
@@ -10,12 +6,6 @@ pub mod Rounds
 pub mod Gradecast
 pub mod Built
 pub mod Cases
-pub mod Quick
-pub mod Listing
-pub mod Example
-pub mod Writing
-pub mod Following
-pub mod ByteRecord
-pub mod Sending
-pub mod BuiltGroup
-pub mod BuiltExample
+pub mod Building
+pub mod Testing
+pub mod Examples

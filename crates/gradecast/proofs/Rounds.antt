@@ -12,20 +12,21 @@ use lib.ListN.{getD}
 use borrow.Author.Tests.{eq-eqb, ne-eqb}
 use Rattle.code.specs.Settings.{Settings}
 use Rattle.code.specs.Vector.{is-vector, has-checks, differ-values}
-use Rattle.counting.specs.Value.{Vector, Rows}
-use Rattle.counting.proofs.Value.{entries-at}
-use Rattle.column.specs.Frame.{operand-in, checks-in}
-use Rattle.column.specs.Record.{Rec, opened, counted}
-use Rattle.column.specs.Exchange.{value-or-blank, heard-at, heard-vector, Table}
+use Rattle.grading.specs.Value.{Vector, Rows}
+use Rattle.grading.proofs.Value.{entries-at}
+use Rattle.record.specs.Frame.{operand-in, checks-in}
+use Rattle.record.specs.Record.{Rec, opened, counted}
+use Rattle.rounds.specs.Exchange.{value-or-blank, heard-at, heard-vector, Table}
 use Rattle.column.specs.Call.{Call, Operand}
-use Rattle.gradecast.specs.Promise.{Good, numbers, Among}
-use Rattle.gradecast.proofs.Agreement.{Carries, differ-le-t}
+use Rattle.gradecast.specs.Promise.{Among, Good, numbers, On}
+use Rattle.grading.specs.Promise.{Carries}
+use Rattle.grading.proofs.Agreement.{differ-le-t}
 use Rattle.column.proofs.Frame.{frame-operand}
-use Rattle.column.proofs.Rows.{Sized, row-alike, checked-vector, row-of-sender}
+use Rattle.rounds.proofs.Rows.{Sized, row-alike, checked-vector, row-of-sender}
 use Rattle.gradecast.proofs.Proper.{Proper}
 use Rattle.gradecast.proofs.Walk.{Kept, kept, Closing, closing-of}
 use Rattle.gradecast.proofs.Goods.{of-number, of-number-is, by-number}
-use Rattle.gradecast.proofs.Handed.{On, Group, opens, numbered, one-or-two, proper, onward, last-on, got}
+use Rattle.gradecast.proofs.Handed.{Group, opens, numbered, one-or-two, proper, onward, last-on, got}
 
 -- the two rounds of checks, and the vector that each is of
 pub data Check-round : Type 0 where
@@ -36,8 +37,8 @@ round-number second = 2
 round-number third = 3
 
 abbrev pub vector-in : Check-round → Rec → Vector
-vector-in second r = r .heard
-vector-in third r = r .agreed
+vector-in second r = r .found .heard
+vector-in third r = r .found .agreed
 
 abbrev pub said : Check-round → Good → Vector
 said c a = vector-in c (a .last)
@@ -50,7 +51,7 @@ high : (c : Check-round) → round-number c ≤ 3
 high second = omega arith
 high third = omega arith
 
-checks-sent : (c : Check-round) (z : Rec) (x : List ℕ) → Operand (round-number c) z x → has-checks (z .settings) (vector-in c z) (checks-in (z .settings) x) ≡ true
+checks-sent : (c : Check-round) (z : Rec) (x : List ℕ) → Operand (round-number c) (z .who) (z .found) x → has-checks (z .who .settings) (vector-in c z) (checks-in (z .who .settings) x) ≡ true
 unfolding Operand
 checks-sent second z x e = e
 checks-sent third z x e = e
@@ -59,10 +60,10 @@ opened-one : (s : Settings) (run : ℕ) (a : Good) → opened s (a .number) run 
 unfolding opened
 opened-one s run a = refl
 
-value-in-slot : (r : Rec) (k : ℕ) → 1 ≤ k → k ≤ r .settings .n → getD (heard-vector r) (k - 1) [] ≡ heard-at r k
+value-in-slot : (r : Rec) (k : ℕ) → 1 ≤ k → k ≤ r .who .settings .n → getD (heard-vector r) (k - 1) [] ≡ heard-at r k
 unfolding heard-vector
 value-in-slot r k l h =
-    entries-at (r .settings .n) 1 (k - 1) (heard-at r) [] (omega arith) ∙ ap (heard-at r) (let e : 1 + (k - 1) ≡ k = omega arith in e)
+    entries-at (r .who .settings .n) 1 (k - 1) (heard-at r) [] (omega arith) ∙ ap (heard-at r) (let e : 1 + (k - 1) ≡ k = omega arith in e)
 
 module _ {s : Settings} {run : ℕ} {gs : List Good} (group : Group s run gs) where
   -- where a good column closed a round that is past
@@ -70,7 +71,7 @@ module _ {s : Settings} {run : ℕ} {gs : List Good} (group : Group s run gs) wh
   closed a i m l h = closing-of m (last-on group a i) (omega (arith, opened-one s run a)) h
 
   -- V of a good column has every good column's own value
-  pub heard-own : (a b : Good) → Among a gs → Among b gs → 2 ≤ a .last .round → getD (a .last .heard) (b .number - 1) [] ≡ b .own
+  pub heard-own : (a b : Good) → Among a gs → Among b gs → 2 ≤ a .last .round → getD (a .last .found .heard) (b .number - 1) [] ≡ b .own
   unfolding heard-at value-or-blank Operand
   heard-own a b i j h =
       ap (λ (v : Vector). getD v (b .number - 1) []) (kept (x .from) .heard (omega (arith, x .way .round, x .in-round)) ∙ x .way .one (x .in-round))
@@ -86,18 +87,18 @@ module _ {s : Settings} {run : ℕ} {gs : List Good} (group : Group s run gs) wh
       p : Proper s (a .number) run (a .own) c
       p = proper group a i (x .to)
 
-      itself : a ≡ b → cond (eqb (b .number) (c .number)) (c .own) (value-or-blank (c .settings) (counted c (b .number))) ≡ b .own
+      itself : a ≡ b → cond (eqb (b .number) (c .who .number)) (c .who .own) (value-or-blank (c .who .settings) (counted c (b .number))) ≡ b .own
       itself e =
-          ap (λ (q : Bool). cond q (c .own) (value-or-blank (c .settings) (counted c (b .number))))
-          (eq-eqb (b .number) (c .number) (ap (λ (g : Good). g .number) (sym e) ∙ sym (p .number)))
+          ap (λ (q : Bool). cond q (c .who .own) (value-or-blank (c .who .settings) (counted c (b .number))))
+          (eq-eqb (b .number) (c .who .number) (ap (λ (g : Good). g .number) (sym e) ∙ sym (p .number)))
           ∙ p .own ∙ ap (λ (g : Good). g .own) e
 
-      another : (a .number ≡ b .number → ⊥) → cond (eqb (b .number) (c .number)) (c .own) (value-or-blank (c .settings) (counted c (b .number))) ≡ b .own
+      another : (a .number ≡ b .number → ⊥) → cond (eqb (b .number) (c .who .number)) (c .who .own) (value-or-blank (c .who .settings) (counted c (b .number))) ≡ b .own
       another d =
           let g = got group a b i j d 1 x (omega arith) (omega arith) in
-          ap (λ (q : Bool). cond q (c .own) (value-or-blank (c .settings) (counted c (b .number))))
-          (ne-eqb (b .number) (c .number) (λ e. d (sym (p .number) ∙ sym e)))
-          ∙ ap (value-or-blank (c .settings)) (g .stands) ∙ g .operand ∙ proper group b j (g .on) .own
+          ap (λ (q : Bool). cond q (c .who .own) (value-or-blank (c .who .settings) (counted c (b .number))))
+          (ne-eqb (b .number) (c .who .number) (λ e. d (sym (p .number) ∙ sym e)))
+          ∙ ap (value-or-blank (c .who .settings)) (g .stands) ∙ g .operand ∙ proper group b j (g .on) .own
 
   -- both rounds of checks: V, or Y, of the good columns, all of which have it
   module _ (c : Check-round) (reached : (a : Good) → Among a gs → round-number c ≤ a .last .round) where
@@ -118,7 +119,7 @@ module _ {s : Settings} {run : ℕ} {gs : List Good} (group : Group s run gs) wh
         go second h = p .heard h
         go third h = p .agreed h
 
-    said-checks : {z : Rec} {rest : List Call} (a : Good) → Among a gs → On s run a z rest → z .round ≡ round-number c → (x : List ℕ) → Operand (round-number c) z x →
+    said-checks : {z : Rec} {rest : List Call} (a : Good) → Among a gs → On s run a z rest → z .round ≡ round-number c → (x : List ℕ) → Operand (round-number c) (z .who) (z .found) x →
         has-checks s (said c a) (checks-in s x) ≡ true
     said-checks {z} a i p e x f =
         subst (λ (v : Vector). has-checks s v (checks-in s x) ≡ true) (said-on a i p (omega (arith, e)))
@@ -127,9 +128,10 @@ module _ {s : Settings} {run : ℕ} {gs : List Good} (group : Group s run gs) wh
     -- what a good column sends to another is the checks of a vector
     said-vector : (a b : Good) → Among a gs → Among b gs → (a .number ≡ b .number → ⊥) → is-vector s (said c a) ≡ true
     said-vector a b i j d =
-        let sent = group .fair b a j i (λ e. d (sym e)) .sends (round-number c) (omega (arith, low c)) (high c) in
-        let operand = subst (λ (m : ℕ). Operand m (sent .0) (operand-in (sent .2))) (sent .4) (frame-operand (sent .0) (sent .2) (sent .5)) in
-        checked-vector s (said c a) _ (said-checks a i (sent .3) (sent .4) (operand-in (sent .2)) operand) (said-sized a i)
+        let sent = group .conditions .fair b a j i (λ e. d (sym e)) .sends (round-number c) (omega (arith, low c)) (high c) in
+        let f = sent .1 in
+        let operand = subst (λ (m : ℕ). Operand m (f .at .who) (f .at .found) (operand-in (sent .0))) (f .in-round) (frame-operand (f .at) (sent .0) (f .frame)) in
+        checked-vector s (said c a) _ (said-checks a i (f .on) (f .in-round) (operand-in (sent .0)) operand) (said-sized a i)
 
     module _ (own : (a b : Good) → Among a gs → Among b gs → getD (said c a) (b .number - 1) [] ≡ b .own) where
       said-near : (a b : Good) → Among a gs → Among b gs → differ-values (said c a) (said c b) ≤ s .t
@@ -144,7 +146,7 @@ module _ {s : Settings} {run : ℕ} {gs : List Good} (group : Group s run gs) wh
             many = t .many ∙ ap (λ (u : Settings). u .n) (p .settings);
             row =
                 by-number (λ m. getD rows (m - 1) [] ≡ of-number [] (said c) gs m) gs
-                (λ b j. (one-or-two group a b i j itself (another b j)) ∙ sym (of-number-is [] (said c) (group .different) j));
+                (λ b j. (one-or-two group a b i j itself (another b j)) ∙ sym (of-number-is [] (said c) (group .conditions .different) j));
           }
         where
           r : Rec

@@ -10,12 +10,12 @@ use Prim.Native.Nat.{ℕ, _<_, _≤_}
 use native.Mathlib.Nat.{eq-or-lt-of-le}
 use native.Mathlib.Omega.{arith}
 use Rattle.code.specs.Settings.{Settings}
-use Rattle.counting.specs.Value.{Value}
-use Rattle.column.specs.Frame.{operand-in}
-use Rattle.column.specs.Record.{Rec, taken-at, is-taken, with-frame}
-use Rattle.column.specs.Refusal.{take-refusal}
+use Rattle.grading.specs.Value.{Value}
+use Rattle.record.specs.Frame.{operand-in}
+use Rattle.record.specs.Record.{Found, Rec, taken-at, is-taken, with-frame}
+use Rattle.record.specs.Refusal.{take-refusal}
 use Rattle.column.specs.Call.{Call, taking, closing, Leads, Run, no-call, one-call, Passes, here, later}
-use Rattle.column.proofs.Refusal.{Opens, taken-of}
+use Rattle.record.proofs.Refusal.{Opens, taken-of}
 use Rattle.column.proofs.Frame.{taken-cases, taken-stays}
 use Rattle.column.proofs.Step.{Closes, Step, stays, takes, closes, step-of}
 use Rattle.gradecast.proofs.Proper.{Proper, none-there, proper-step, leads-unique}
@@ -23,9 +23,9 @@ use Rattle.gradecast.proofs.Proper.{Proper, none-there, proper-step, le
 -- what stays
 pub record Kept (r q : Rec) : Type 0 where
   pub up : r .round ≤ q .round
-  pub heard : 2 ≤ r .round → q .heard ≡ r .heard
-  pub agreed : 3 ≤ r .round → q .agreed ≡ r .agreed
-  pub held : 4 ≤ r .round → q .held ≡ r .held
+  pub heard : 2 ≤ r .round → q .found .heard ≡ r .found .heard
+  pub agreed : 3 ≤ r .round → q .found .agreed ≡ r .found .agreed
+  pub held : 4 ≤ r .round → q .found .held ≡ r .found .held
 
 kept-self : (r : Rec) → Kept r r
 kept-self r = record { up = omega arith; heard = λ h. refl; agreed = λ h. refl; held = λ h. refl }
@@ -44,7 +44,7 @@ unfolding with-frame
 kept-frame r k x = record { up = omega arith; heard = λ h. refl; agreed = λ h. refl; held = λ h. refl }
 
 pub kept-step : (r q : Rec) (c : Call) → Step r q c → Kept r q
-kept-step r q c (stays d u) = record { up = omega (arith, u .round); heard = λ h. u .heard; agreed = λ h. u .agreed; held = λ h. u .held }
+kept-step r q c (stays d u) = record { up = omega (arith, u .round); heard = λ h. ap (λ (f : Found). f .heard) (u .found); agreed = λ h. ap (λ (f : Found). f .agreed) (u .found); held = λ h. ap (λ (f : Found). f .held) (u .found) }
 kept-step r q c (takes j bs e g) = subst (Kept r) (sym g) (kept-frame r j (operand-in bs))
 kept-step r q c (closes x) = record { up = omega (arith, x .round); heard = x .heard-kept; agreed = x .agreed-kept; held = λ h. absurd (omega (arith, x .high)) }
 
@@ -55,14 +55,6 @@ kept (later r q z c cs rest l p) = kept-join r q z (kept-step r q c (step-of c r
 pub run-passes : {r z : Rec} {cs : List Call} → Run r cs z → Passes r cs z []
 run-passes (no-call r) = here r []
 run-passes (one-call r q z c cs l p) = later r q z c cs [] l (run-passes p)
-
-pub passes-run : {r z : Rec} {cs : List Call} → Passes r cs z [] → Run r cs z
-passes-run (here r cs) = no-call r
-passes-run (later r q z c cs rest l p) = one-call r q z c cs l (passes-run p)
-
-pub passes-join : {r q z : Rec} {cs ds rest : List Call} → Passes r cs q ds → Passes q ds z rest → Passes r cs z rest
-passes-join (here r cs) b = b
-passes-join (later r q z c cs rest l p) b = later r q _ c cs _ l (passes-join p b)
 
 -- a frame taken stays to the end of its round
 taken-step :
@@ -150,7 +142,7 @@ Stood-or-came r cs k m x = ((taken-at (r .frames) k ≡ some x) × (r .round ≡
 came-step : (r q : Rec) (c : Call) (cs : List Call) (k : ℕ) (x : List ℕ) → Step r q c → taken-at (q .frames) k ≡ some x → Stood-or-came r (c ∷ cs) k (q .round) x
 unfolding with-frame
 came-step r q c cs k x (stays d u) e = inl (sym (ap (λ (fs : List (Option (List ℕ))). taken-at fs k) (u .frames)) ∙ e, sym (u .round))
-came-step r q c cs k x (closes y) e = none-there (r .settings) (q .frames) k x (y .frames) e
+came-step r q c cs k x (closes y) e = none-there (r .who .settings) (q .frames) k x (y .frames) e
 came-step r q c cs k x (takes j bs f g) e =
     go (taken-cases r k j x (operand-in bs) (taken-of r j bs f .low) (sym (ap (λ (y : Rec). taken-at (y .frames) k) g) ∙ e))
   where

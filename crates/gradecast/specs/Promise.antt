@@ -1,18 +1,22 @@
 -- What is promised of an exchange among columns. Each statement is a type, and proofs/ has its proof. Assumes nothing.
 use mathlib.Core.Path.{_≡_}
-use mathlib.Core.Bool.{Bool, true, false, _&&_, _||_, not}
-use mathlib.Core.List.{List, [], _∷_}
-use Prim.Native.Nat.{ℕ, _+_, _-_, _≤_, _<_}
-use lib.Dec.{eqb}
+use mathlib.Core.Bool.{true}
+use mathlib.Core.List.{List, [], _∷_, map}
+use Prim.Native.Nat.{ℕ, _+_, _-_, _≤_}
 use lib.ListN.{length, getD}
-use Rattle.code.specs.Settings.{Settings, settings-refusal}
-use Rattle.code.specs.Plane.{byte-list}
-use Rattle.counting.specs.Value.{Value}
-use Rattle.counting.specs.Held.{Held, held-as}
-use Rattle.column.specs.Frame.{run-in}
-use Rattle.column.specs.Record.{Rec, opened}
-use Rattle.column.specs.Refusal.{open-refusal}
+use Rattle.code.specs.Settings.{Settings}
+use Rattle.grading.specs.Value.{Value}
+use Rattle.grading.specs.Held.{Held, held-as}
+use Rattle.grading.specs.Promise.{all-different, apart}
+use Rattle.record.specs.Frame.{header-size, run-in}
+use Rattle.record.specs.Record.{Rec, opened}
+use Rattle.record.specs.Refusal.{open-refusal}
 use Rattle.column.specs.Call.{Call, taking, Run, Passes, Frame-of}
+
+-- one of a list
+pub data Among {A : Type 0} (x : A) : List A → Type 0 where
+  first : (xs : List A) → Among x (x ∷ xs)
+  other : (y : A) (xs : List A) → Among x xs → Among x (y ∷ xs)
 
 -- a good column: its number, the own value it was opened with, its list of calls, and the record after them
 pub record Good : Type 0 where
@@ -21,74 +25,68 @@ pub record Good : Type 0 where
   pub calls : List Call
   pub last : Rec
 
--- what stands for a column that there is not
-unfoldable pub none-held : Held
-none-held = held-as [] 0
-
--- the value and confidence that a good column holds about a column: what a result call answers after its list
-unfoldable pub holds : Good → (column : ℕ) → Held
-holds g k = getD (g .last .held) (k - 1) none-held
-
 -- the numbers of good columns
 unfoldable pub numbers : List Good → List ℕ
-numbers [] = []
-numbers (g ∷ gs) = g .number ∷ numbers gs
+numbers gs = map (λ g. g .number) gs
 
--- whether a number is in a list
-unfoldable pub member : ℕ → List ℕ → Bool
-member v [] = false
-member v (x ∷ xs) = eqb x v || member v xs
-
--- numbers of their own: no two are the same
-unfoldable pub all-different : List ℕ → Bool
-all-different [] = true
-all-different (x ∷ xs) = not (member x xs) && all-different xs
-
--- one of the good columns
-pub data Among (g : Good) : List Good → Type 0 where
-  first : (gs : List Good) → Among g (g ∷ gs)
-  other : (h : Good) (gs : List Good) → Among g gs → Among g (h ∷ gs)
-
--- an opening that is not refused, of an own value of bytes, and a list of calls that leads to the last record
+-- an opening that is not refused, and a list of calls that leads to the last record
 pub record Ran (s : Settings) (run : ℕ) (g : Good) : Type 0 where
-  pub open-good : open-refusal s (g .number) (g .own) ≡ 0
-  pub own-bytes : byte-list (g .own) ≡ true
+  pub opens : open-refusal s (g .number) (g .own) ≡ 0
   pub leads : Run (opened s (g .number) run (g .own)) (g .calls) (g .last)
 
--- handed: the bytes stand in a taking call of the reader's list, made while it is in that round, with the sender's number as slot
-pub record Handed (s : Settings) (run : ℕ) (reader sender : Good) (bytes : List ℕ) (round : ℕ) : Type 0 where
+-- the records that a column's list passes through, each with the calls still to come
+abbrev pub On : Settings → (run : ℕ) → Good → (at : Rec) → (rest : List Call) → Type 0
+On s run g at rest = Passes (opened s (g .number) run (g .own)) (g .calls) at rest
+
+-- the frame of a column's round, which its list reaches
+pub record Round-frame (s : Settings) (run : ℕ) (sender : Good) (round : ℕ) (bytes : List ℕ) : Type 0 where
   pub at : Rec
   pub rest : List Call
-  pub passes : Passes (opened s (reader .number) run (reader .own)) (reader .calls) at (taking (sender .number) bytes ∷ rest)
+  pub on : On s run sender at rest
+  pub in-round : at .round ≡ round
+  pub frame : Frame-of at bytes
+
+-- handed: the bytes stand in a taking call of the reader's list, made while it is in a round, with the sender's number as slot
+pub record Handed (s : Settings) (run : ℕ) (reader sender : Good) (round : ℕ) (bytes : List ℕ) : Type 0 where
+  pub at : Rec
+  pub rest : List Call
+  pub on : On s run reader at (taking (sender .number) bytes ∷ rest)
   pub in-round : at .round ≡ round
 
 -- the sender's frame of each round is handed to the reader while it is in that round, and nothing else under its slot with that run number
 pub record Fair (s : Settings) (run : ℕ) (reader sender : Good) : Type 0 where
   pub sends :
       (round : ℕ) → 1 ≤ round → round ≤ 3 →
-      (at : Rec) × (rest : List Call) × (bytes : List ℕ) × Passes (opened s (sender .number) run (sender .own)) (sender .calls) at rest
-      × (at .round ≡ round) × Frame-of at bytes × Handed s run reader sender bytes round
+      (bytes : List ℕ) × Round-frame s run sender round bytes × Handed s run reader sender round bytes
   pub only :
-      (bytes : List ℕ) (at : Rec) (rest : List Call) →
-      Passes (opened s (reader .number) run (reader .own)) (reader .calls) at (taking (sender .number) bytes ∷ rest) → 4 ≤ length bytes →
-      run-in bytes ≡ run →
-      (z : Rec) × (more : List Call) × Passes (opened s (sender .number) run (sender .own)) (sender .calls) z more × Frame-of z bytes
+      (round : ℕ) (bytes : List ℕ) → Handed s run reader sender round bytes → header-size ≤ length bytes → run-in bytes ≡ run →
+      (its-round : ℕ) × Round-frame s run sender its-round bytes
 
--- how far two confidences are apart
-unfoldable pub apart : (a b : ℕ) → ℕ
-apart a b = (a - b) + (b - a)
+-- the conditions of demand 3: good columns with numbers of their own, at most t numbers left over, each of which ran, and whose frames
+-- reach each other
+pub record Conditions (s : Settings) (run : ℕ) (gs : List Good) : Type 0 where
+  pub different : all-different (numbers gs) ≡ true
+  pub enough : s .n ≤ length gs + s .t
+  pub ran : (a : Good) → Among a gs → Ran s run a
+  pub fair : (a b : Good) → Among a gs → Among b gs → (a .number ≡ b .number → ⊥) → Fair s run a b
 
--- two good columns g and h, and a third x: confidences at most one apart, equal values where both are above 0, and x's own value
--- at confidence 2
-pub record Agree (g h x : Good) (s : Settings) : Type 0 where
-  pub near : (k : ℕ) → 1 ≤ k → k ≤ s .n → apart (holds g k .confidence) (holds h k .confidence) ≤ 1
-  pub values : (k : ℕ) → 1 ≤ k → k ≤ s .n → 1 ≤ holds g k .confidence → 1 ≤ holds h k .confidence → holds g k .value ≡ holds h k .value
-  pub own : holds g (x .number) ≡ held-as (x .own) 2
+-- what stands for a column that there is not
+unfoldable pub none-held : Held
+none-held = held-as [] 0
 
--- demand 3: of good columns, at most t numbers left over, any two that have finished agree; two may also be one and the same
+-- the value and confidence that a good column holds about a column
+unfoldable pub holds : Good → (column : ℕ) → Held
+holds g k = getD (g .last .found .held) (k - 1) none-held
+
+-- what two good columns hold about columns 1 to n: confidences at most one apart, equal values where both are above 0, and about a good
+-- column with this number both hold its own value at confidence 2
+pub record Agree (n : ℕ) (g h : (column : ℕ) → Held) (number : ℕ) (own : Value) : Type 0 where
+  pub near : (k : ℕ) → 1 ≤ k → k ≤ n → apart (g k .confidence) (h k .confidence) ≤ 1
+  pub values : (k : ℕ) → 1 ≤ k → k ≤ n → 1 ≤ g k .confidence → 1 ≤ h k .confidence → g k .value ≡ h k .value
+  pub own-value : (g number ≡ held-as own 2) × (h number ≡ held-as own 2)
+
+-- demand 3: any two good columns that have finished agree; two may also be one and the same
 unfoldable pub Gradecast : Type 0
 Gradecast =
-    (s : Settings) (run : ℕ) (gs : List Good) (g h x : Good) → settings-refusal s ≡ 0 → run < 65536 → all-different (numbers gs) ≡ true →
-    s .n ≤ length gs + s .t → Among g gs → Among h gs → Among x gs → ((a : Good) → Among a gs → Ran s run a) →
-    ((a b : Good) → Among a gs → Among b gs → (a .number ≡ b .number → ⊥) → Fair s run a b) → g .last .round ≡ 4 → h .last .round ≡ 4 →
-    Agree g h x s
+    (s : Settings) (run : ℕ) (gs : List Good) (g h x : Good) → Conditions s run gs → Among g gs → Among h gs → Among x gs →
+    g .last .round ≡ 4 → h .last .round ≡ 4 → Agree (s .n) (holds g) (holds h) (x .number) (x .own)

@@ -9,24 +9,24 @@ use Prim.Native.Nat.{ℕ, zero, suc, _+_, _<_, _≤_}
 use native.Mathlib.Nat.{eq-or-lt-of-le}
 use native.Mathlib.Omega.{arith}
 use lib.Dec.{eqb}
-use lib.ListN.{length, getD, replicate, getD-replicate}
+use lib.ListN.{length, getD, getD-replicate}
 use Rattle.code.specs.Settings.{Settings, value-size}
 use Rattle.code.specs.Plane.{byte-list}
 use Rattle.code.specs.Vector.{is-vector}
-use Rattle.code.proofs.Bytes.{Bytes, bytes-of, bytes-drop, and-split}
+use Rattle.code.proofs.Bytes.{Bytes, bytes-of, bytes-drop, bytes-zeros, and-split}
 use Rattle.code.proofs.Vector.{Values, vector-of, vector-back}
-use Rattle.counting.specs.Value.{Value, Vector, Rows, blank, blanks}
-use Rattle.counting.specs.Count.{agreed-at, agreed-vector}
-use Rattle.counting.proofs.Value.{entries-at}
-use Rattle.column.specs.Frame.{operand-in}
-use Rattle.column.specs.Record.{Rec, opened, taken-at, counted, with-frame}
-use Rattle.column.specs.Exchange.{value-or-blank, heard-at, heard-vector, Row, Table}
+use Rattle.grading.specs.Value.{Value, Vector, Rows, blank, blanks}
+use Rattle.grading.specs.Count.{agreed-at, agreed-vector}
+use Rattle.grading.proofs.Value.{entries-at}
+use Rattle.record.specs.Frame.{header-size, operand-in}
+use Rattle.record.specs.Record.{Rec, who-as, opened, taken-at, counted, with-frame}
+use Rattle.rounds.specs.Exchange.{value-or-blank, heard-at, heard-vector, Row, Table}
 use Rattle.column.specs.Call.{Call, taking, sending, closing, asking}
-use Rattle.column.proofs.Refusal.{Opens, taken-of}
+use Rattle.record.proofs.Refusal.{Opens, taken-of}
 use Rattle.column.proofs.Frame.{taken-cases}
-use Rattle.column.proofs.Rows.{Sized, table-rows}
+use Rattle.rounds.proofs.Rows.{Sized, table-rows}
 use Rattle.column.proofs.Step.{Unchanged, Closes, Step, stays, takes, closes}
-use Rattle.gradecast.proofs.Grade.{agreed-is}
+use Rattle.grading.proofs.Grade.{agreed-is}
 use Rattle.gradecast.proofs.Proper.{Proper, none-there}
 
 -- values of bytes
@@ -54,13 +54,9 @@ bytes-vector s vs z b =
       values = bytes-values (value-size s) vs (λ j h. z .each j (rw (z .many) at h)) (λ j h. b j (rw (z .many) at h));
     })
 
-zeros-bytes : (n : ℕ) → Bytes (replicate n 0)
-zeros-bytes zero = tt
-zeros-bytes (suc n) = (omega arith, zeros-bytes n)
-
 blank-bytes : (s : Settings) → Bytes (blank s)
 unfolding blank
-blank-bytes s = zeros-bytes (value-size s)
+blank-bytes s = bytes-zeros (value-size s)
 
 blanks-bytes : (s : Settings) → Byte-values (s .n) (blanks s)
 unfolding blanks
@@ -75,31 +71,31 @@ row-bytes s vs (some x) row (inr r) = rw (r .1) (blanks-bytes s)
 
 -- a record of bytes
 pub record Byte-record (s : Settings) (r : Rec) : Type 0 where
-  pub own : Bytes (r .own)
+  pub own : Bytes (r .who .own)
   pub operands : (j : ℕ) (x : List ℕ) → taken-at (r .frames) j ≡ some x → Bytes x
-  pub heard : 2 ≤ r .round → Byte-values (s .n) (r .heard)
-  pub agreed : 3 ≤ r .round → Byte-values (s .n) (r .agreed)
+  pub heard : 2 ≤ r .round → Byte-values (s .n) (r .found .heard)
+  pub agreed : 3 ≤ r .round → Byte-values (s .n) (r .found .agreed)
 
 heard-bytes :
-    (r : Rec) → Bytes (r .own) → ((j : ℕ) (x : List ℕ) → taken-at (r .frames) j ≡ some x → Bytes x) → Byte-values (r .settings .n) (heard-vector r)
+    (r : Rec) → Bytes (r .who .own) → ((j : ℕ) (x : List ℕ) → taken-at (r .frames) j ≡ some x → Bytes x) → Byte-values (r .who .settings .n) (heard-vector r)
 unfolding heard-vector heard-at value-or-blank counted
 heard-bytes r own operands j h =
-    subst Bytes (sym (entries-at (r .settings .n) 1 j (heard-at r) [] h)) (go (eqb (1 + j) (r .number)) (taken-at (r .frames) (1 + j)) refl)
+    subst Bytes (sym (entries-at (r .who .settings .n) 1 j (heard-at r) [] h)) (go (eqb (1 + j) (r .who .number)) (taken-at (r .frames) (1 + j)) refl)
   where
-    go : (q : Bool) (f : Option (List ℕ)) → taken-at (r .frames) (1 + j) ≡ f → Bytes (cond q (r .own) (value-or-blank (r .settings) f))
+    go : (q : Bool) (f : Option (List ℕ)) → taken-at (r .frames) (1 + j) ≡ f → Bytes (cond q (r .who .own) (value-or-blank (r .who .settings) f))
     go true f g = own
-    go false none g = blank-bytes (r .settings)
+    go false none g = blank-bytes (r .who .settings)
     go false (some x) g = operands (1 + j) x g
 
 agreed-bytes :
-    (r : Rec) (rows : Rows) → 1 ≤ r .number → Byte-values (r .settings .n) (r .heard) → Table r (r .heard) rows →
-    Byte-values (r .settings .n) (agreed-vector (r .settings) rows)
+    (r : Rec) (rows : Rows) → 1 ≤ r .who .number → Byte-values (r .who .settings .n) (r .found .heard) → Table r (r .found .heard) rows →
+    Byte-values (r .who .settings .n) (agreed-vector (r .who .settings) rows)
 unfolding agreed-vector
 agreed-bytes r rows low b t j h =
-    subst Bytes (sym (entries-at (r .settings .n) 0 j (agreed-at (r .settings) rows) [] h))
-    (agreed-is Bytes (r .settings) rows (0 + j) (blank-bytes (r .settings))
+    subst Bytes (sym (entries-at (r .who .settings .n) 0 j (agreed-at (r .who .settings) rows) [] h))
+    (agreed-is Bytes (r .who .settings) rows (0 + j) (blank-bytes (r .who .settings))
     (λ i l.
-    table-rows (λ k row. Byte-values (r .settings .n) row) r (r .heard) rows low t b (λ k row m d x e. row-bytes (r .settings) (r .heard) _ row x) i
+    table-rows (λ k row. Byte-values (r .who .settings .n) row) r (r .found .heard) rows low t b (λ k row m d x e. row-bytes (r .who .settings) (r .found .heard) _ row x) i
     (rw (t .many) at l) (0 + j) (omega arith)))
 
 -- calls with frames of bytes
@@ -126,17 +122,17 @@ first-call asking xs e = (tt, e)
 -- each step keeps it
 module _ (s : Settings) (k run : ℕ) (v : Value) (o : Opens s k v) where
   pub open-bytes : byte-list v ≡ true → Byte-record s (opened s k run v)
-  unfolding opened
+  unfolding opened who-as
   open-bytes e =
       record { own = bytes-of v e; operands = λ j x f. none-there s _ j x refl f; heard = λ h. absurd (omega arith); agreed = λ h. absurd (omega arith) }
 
   unchanged-bytes : (r q : Rec) → Byte-record s r → Unchanged r q → Byte-record s q
   unchanged-bytes r q b u =
       record {
-        own = rw (u .column .own) (b .own);
+        own = rw (u .who) (b .own);
         operands = λ j x e. b .operands j x (sym (ap (λ (fs : List (Option (List ℕ))). taken-at fs j) (u .frames)) ∙ e);
-        heard = λ h. rw (u .heard) (b .heard (omega (arith, u .round)));
-        agreed = λ h. rw (u .agreed) (b .agreed (omega (arith, u .round)));
+        heard = λ h. rw (u .found) (b .heard (omega (arith, u .round)));
+        agreed = λ h. rw (u .found) (b .agreed (omega (arith, u .round)));
       }
 
   takes-bytes : (r : Rec) (j : ℕ) (y : List ℕ) → Byte-record s r → 1 ≤ j → Bytes y → Byte-record s (with-frame r j y)
@@ -150,28 +146,28 @@ module _ (s : Settings) (k run : ℕ) (v : Value) (o : Opens s k v) where
   closes-bytes : (r q : Rec) → Proper s k run v r → Byte-record s r → Closes r q → Byte-record s q
   closes-bytes r q p b x =
       record {
-        own = rw (x .column .own) (b .own);
-        operands = λ j y e. none-there (r .settings) (q .frames) j y (x .frames) e;
+        own = rw (x .who) (b .own);
+        operands = λ j y e. none-there (r .who .settings) (q .frames) j y (x .frames) e;
         heard = λ h. heard (eq-or-lt-of-le (x .low));
         agreed = λ h. agreed (eq-or-lt-of-le (let two : 2 ≤ r .round = omega (arith, x .round) in two));
       }
     where
-      by-settings : (vs : Vector) → Byte-values (r .settings .n) vs → Byte-values (s .n) vs
+      by-settings : (vs : Vector) → Byte-values (r .who .settings .n) vs → Byte-values (s .n) vs
       by-settings vs = subst (λ (u : Settings). Byte-values (u .n) vs) (p .settings)
 
-      heard : (1 ≡ r .round) ⊎ (1 < r .round) → Byte-values (s .n) (q .heard)
+      heard : (1 ≡ r .round) ⊎ (1 < r .round) → Byte-values (s .n) (q .found .heard)
       heard (inl e) = rw (x .one (sym e)) (by-settings (heard-vector r) (heard-bytes r (b .own) (b .operands)))
       heard (inr e) = rw (x .heard-kept e) (b .heard e)
 
-      agreed : (2 ≡ r .round) ⊎ (2 < r .round) → Byte-values (s .n) (q .agreed)
+      agreed : (2 ≡ r .round) ⊎ (2 < r .round) → Byte-values (s .n) (q .found .agreed)
       agreed (inl e) =
           let t = x .two (sym e) in
-          rw (t .2) (by-settings (agreed-vector (r .settings) (t .0)) (agreed-bytes r (t .0) (rw (p .number) (o .low)) (rw (p .settings) (b .heard (omega (arith, e)))) (t .1)))
+          rw (t .2) (by-settings (agreed-vector (r .who .settings) (t .0)) (agreed-bytes r (t .0) (rw (p .number) (o .low)) (rw (p .settings) (b .heard (omega (arith, e)))) (t .1)))
       agreed (inr e) = rw (x .agreed-kept e) (b .agreed e)
 
   pub step-bytes : (c : Call) (r q : Rec) → Proper s k run v r → Byte-record s r → Byte-call c → Step r q c → Byte-record s q
   unfolding Byte-call operand-in
   step-bytes c r q p b f (stays d u) = unchanged-bytes r q b u
   step-bytes c r q p b f (takes j bs e g) =
-      subst (Byte-record s) (sym g) (takes-bytes r j (operand-in bs) b (taken-of r j bs e .low) (bytes-drop 4 bs f))
+      subst (Byte-record s) (sym g) (takes-bytes r j (operand-in bs) b (taken-of r j bs e .low) (bytes-drop header-size bs f))
   step-bytes c r q p b f (closes x) = closes-bytes r q p b x

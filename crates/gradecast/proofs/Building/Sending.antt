@@ -14,18 +14,18 @@ use Rattle.code.specs.Entry.{values-in}
 use Rattle.code.specs.Promise.{Checks-there}
 use Rattle.code.proofs.Vector.{Values, checked-of}
 use Rattle.code.proofs.Checks.{checks-there}
-use Rattle.counting.specs.Value.{Value, Vector}
-use Rattle.column.specs.Frame.{operand-size, checks-in}
-use Rattle.column.specs.Record.{Rec, opened}
-use Rattle.column.specs.Refusal.{send-refusal}
+use Rattle.grading.specs.Value.{Value, Vector}
+use Rattle.record.specs.Frame.{operand-size, checks-in}
+use Rattle.record.specs.Record.{Rec, opened}
+use Rattle.record.specs.Refusal.{send-refusal}
 use Rattle.column.specs.Call.{Call, taking, sending, closing, asking, Passes, here, later, Operand}
-use Rattle.column.proofs.Refusal.{Opens, first-of-zero, round-inside}
-use Rattle.column.proofs.Front.{cut-glued}
+use Rattle.record.proofs.Refusal.{Opens, first-of-zero, round-inside}
+use Rattle.record.proofs.Front.{cut-glued}
 use Rattle.column.proofs.Sent.{operand-own, operand-heard, operand-agreed, frame-sent}
 use Rattle.column.proofs.Step.{step-of}
 use Rattle.gradecast.proofs.Proper.{Proper, proper-open, proper-step}
-use Rattle.gradecast.proofs.Following.{Can-send, Sendable}
-use Rattle.gradecast.proofs.ByteRecord.{Byte-record, bytes-vector, byte-frames, first-call, open-bytes, step-bytes}
+use Rattle.gradecast.proofs.Building.Following.{Can-send, Sendable}
+use Rattle.gradecast.proofs.Building.ByteRecord.{Byte-record, bytes-vector, byte-frames, first-call, open-bytes, step-bytes}
 
 -- the check values of a vector, as an operand
 glued-length : (w : ℕ) (vs : Vector) → Values w vs → length (glued vs) ≡ length vs * w
@@ -50,17 +50,17 @@ module _ (s : Settings) (k run : ℕ) (v : Value) (o : Opens s k v) where
   -- the operand of each round
   operand-there :
       (m : ℕ) (r : Rec) → r .round ≡ m → 1 ≤ m → m ≤ 3 → Proper s k run v r → Byte-record s r →
-      (xs : List ℕ) × (length xs ≡ operand-size (r .settings) m) × Operand m r xs
+      (xs : List ℕ) × (length xs ≡ operand-size (r .who .settings) m) × Operand m (r .who) (r .found) xs
   unfolding operand-size value-size
   operand-there zero r e low high p b = absurd (omega arith)
   operand-there (suc zero) r e low high p b =
-      (r .own, ap length (p .own) ∙ o .size ∙ ap (λ (u : Settings). u .w) (sym (p .settings)), operand-own 1 r (r .own) refl refl)
+      (r .who .own, ap length (p .own) ∙ o .size ∙ ap (λ (u : Settings). u .w) (sym (p .settings)), operand-own 1 (r .who) (r .found) (r .who .own) refl refl)
   operand-there (suc (suc zero)) r e low high p b =
-      let x = checks-operand (r .settings) (r .heard) (rw (p .settings) (o .fine)) (rw (p .settings) (bytes-vector s (r .heard) (p .heard (omega arith)) (b .heard (omega arith)))) in
-      (x .0, x .1, operand-heard 2 r (x .0) refl (x .2))
+      let x = checks-operand (r .who .settings) (r .found .heard) (rw (p .settings) (o .fine)) (rw (p .settings) (bytes-vector s (r .found .heard) (p .heard (omega arith)) (b .heard (omega arith)))) in
+      (x .0, x .1, operand-heard 2 (r .who) (r .found) (x .0) refl (x .2))
   operand-there (suc (suc (suc zero))) r e low high p b =
-      let x = checks-operand (r .settings) (r .agreed) (rw (p .settings) (o .fine)) (rw (p .settings) (bytes-vector s (r .agreed) (p .agreed (omega arith)) (b .agreed (omega arith)))) in
-      (x .0, x .1, operand-agreed 3 r (x .0) refl (x .2))
+      let x = checks-operand (r .who .settings) (r .found .agreed) (rw (p .settings) (o .fine)) (rw (p .settings) (bytes-vector s (r .found .agreed) (p .agreed (omega arith)) (b .agreed (omega arith)))) in
+      (x .0, x .1, operand-agreed 3 (r .who) (r .found) (x .0) refl (x .2))
   operand-there (suc (suc (suc (suc m)))) r e low high p b = absurd (omega arith)
 
   can-send : (x : Call) (r : Rec) → Proper s k run v r → Byte-record s r → Can-send x r

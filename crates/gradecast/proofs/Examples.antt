@@ -1,0 +1,7 @@
+-- Exchanges that meet the conditions of demand 3.
+pub mod Exchange
+pub mod Printed
+pub mod Rough
+pub mod Outcomes
+pub mod Defined
+pub mod Built
