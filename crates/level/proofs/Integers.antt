@@ -13,10 +13,10 @@ use mir.Syntax.{w64}
 use mir.Val.{SFits, toZ, ofZ}
 use mir.Facts.{toZ-ofZ}
 use borrow.Author.Tests.{ltb-true, ltb-false, lt-ltb, le-ltb}
-use Rattle.counting.specs.Value.{Value}
-use Rattle.counting.proofs.Bool.{true-not-false}
+use Rattle.grading.specs.Value.{Value}
+use Rattle.grading.proofs.Bool.{true-not-false}
 use Rattle.level.specs.Level.{bits, signed, height, halved}
-use Rattle.level.specs.Ends.{Short}
+use Rattle.level.specs.Steps.Ends.{Short}
 
 mag-less : (a b : ℕ) → mag (subℕ a (suc b)) ≤ suc (a + b)
 mag-less a b = go (ltb a (suc b))

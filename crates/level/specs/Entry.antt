@@ -2,8 +2,8 @@
 use mathlib.Core.Path.{_≡_}
 use Prim.Native.Nat.{ℕ}
 use lib.IntN.{ℤ, pos}
-use Rattle.column.specs.View.{view}
-use Rattle.column.specs.declared.record.Column.{Column}
+use Rattle.record.specs.View.{view}
+use Rattle.record.specs.declared.Column.{Column}
 use Rattle.level.specs.Level.{level-of, correction-of, level-refusal}
 
 -- `level`: the refusal that applies and two zeros, or 0 with the level and the correction

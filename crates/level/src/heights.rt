@@ -5,8 +5,11 @@ ghost use Prim.Native.Nat.{_*_, _<_};
 ghost use lib.IntN.{_-ℤ_};
 ghost use lib.ListN.{take, drop};
 ghost use lib.Signed.{mag};
+ghost use Rattle.code.specs.Size.{most-columns};
 ghost use Rattle.level.specs.Level.{bits, signed, height, halved};
-ghost use Rattle.level.specs.Ends.{Short};
+ghost use Rattle.level.specs.Steps.Ends.{Short};
+use code::sizes::VALUE_ROOM;
+use code::sizes::VECTOR_ROOM;
 
 fn wide(x: u8) -> u64
     ensures { λ r. ⌜ r ≡ x ⌝ }
@@ -42,8 +45,8 @@ pub fn height(a: u8, b: u8, c: u8, d: u8) -> i64
 }
 
 // The height of column j, from 0 on, among values of four bytes.
-pub fn height_at(values: &[u8; 256], j: usize) -> i64
-    requires { ⌜ j < 32 ⌝ }
+pub fn height_at(values: &[u8; VECTOR_ROOM], j: usize) -> i64
+    requires { ⌜ j < most-columns ⌝ }
     ensures { λ r. ⌜ (r ≡ height (take 4 (drop (j * 4) (now (values .entry))))) × Short r ⌝ }
 {
     let at = 4 * j;
@@ -62,7 +65,7 @@ pub fn halved(sum: i64) -> i64
 }
 
 // A level less the own height.
-pub fn correction(level: i64, own: [u8; 8]) -> i64
+pub fn correction(level: i64, own: [u8; VALUE_ROOM]) -> i64
     requires { ⌜ mag level < 4294967296 ⌝ }
     ensures { λ r. ⌜ r ≡ level -ℤ height (take 4 own) ⌝ }
 {

@@ -5,7 +5,7 @@ mod heights;
 
 ghost use Rattle.level.specs.Entry.{Level-says};
 use crate::answer::Level;
-use column::record::Column;
+use record::Column;
 
 // The level and the correction of a finished column whose values are heights: 0, or the refusal 1 to 4, 6, 17, 21 or 22.
 pub fn level(column: Column) -> Level
@@ -15,11 +15,12 @@ pub fn level(column: Column) -> Level
     if held.answer != 0 {
         return answer::refused(held.answer);
     }
-    if column.w != 4 {
+    let who = column.who;
+    if who.w != 4 {
         return answer::refused(21);
     }
-    let n = column.n as usize;
-    let dropped = column.t as usize;
+    let n = who.n as usize;
+    let dropped = who.t as usize;
     let values = held.values;
     let confidences = held.confidences;
     let sorted = ends::ascending(n, values, confidences);
@@ -28,7 +29,7 @@ pub fn level(column: Column) -> Level
     }
     let heights = sorted.heights;
     let level = ends::middle(heights, sorted.many, dropped);
-    let own = column.own;
+    let own = who.own;
     let correction = heights::correction(level, own);
     Level {
         answer: 0,

@@ -1,26 +1,40 @@
 // Runs `level` on stored cases that another implementation worked out, and says how many agree: in the answer and in both numbers.
-use column::record::Column;
+use code::sizes::MOST_COLUMNS;
+use code::sizes::VALUE_ROOM;
+use code::sizes::VECTOR_ROOM;
 use level::answer::Level;
 use libc::STDIN_FILENO;
+use record::Column;
+use record::Findings;
+use record::Identity;
 use vector_file::Tally;
 
 // The record of a case, whose values come next.
 fn stored_column(n: u32, t: u32, w: u32, number: u32, round: u32) -> Column {
-    let mut own = [0u8; 8];
-    let mut values = [0u8; 256];
-    let mut confidences = [0u8; 32];
+    let mut own = [0u8; VALUE_ROOM];
+    let mut values = [0u8; VECTOR_ROOM];
+    let mut confidences = [0u8; MOST_COLUMNS];
     vector_file::fill(&mut own, 8);
     vector_file::fill(&mut values, 128);
     vector_file::fill(&mut confidences, 32);
-    let mut column = column::record::empty();
-    column.n = n;
-    column.t = t;
-    column.w = w;
-    column.number = number;
+    let mut column = record::empty();
+    let who = Identity {
+        n,
+        t,
+        w,
+        number,
+        run: 0,
+        own,
+    };
+    let found = Findings {
+        heard: [0u8; VECTOR_ROOM],
+        agreed: [0u8; VECTOR_ROOM],
+        values,
+        confidences,
+    };
+    column.who = who;
+    column.found = found;
     column.round = round;
-    column.own = own;
-    column.values = values;
-    column.confidences = confidences;
     column
 }
 
@@ -37,7 +51,7 @@ fn agree(a: Level, b: Level) -> bool {
     a.answer == b.answer && a.level == b.level && a.correction == b.correction
 }
 
-// The settings, number, round and answer of a case come first, as vectors/levels.py lays them out.
+// The settings, number, round and answer of a case come first, as models/vectors/levels.py lays them out.
 fn step(tally: Tally) -> Tally {
     let mut b = [0u8; 34];
     let got = io::read_full(STDIN_FILENO, &mut b);

@@ -4,10 +4,10 @@ ghost use Rattle.code.specs.Entry.{Checks-says};
 ghost use Rattle.repair.specs.Entry.{Repair-says};
 ghost use Rattle.column.specs.Entry.{Open-says, Take-says, Send-says, Close-says, Result-says};
 ghost use Rattle.level.specs.Entry.{Level-says};
-use column::record::Column;
-use column::record::Holdings;
-use column::record::Outcome;
 use level::answer::Level;
+use record::Column;
+use record::Holdings;
+use record::Outcome;
 
 #[no_mangle]
 pub extern "C" fn sajowemi_open(

@@ -1,2 +1,1 @@
-pub mod NoneNear
 pub mod Starred

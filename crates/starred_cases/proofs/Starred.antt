@@ -7,23 +7,26 @@ use native.Mathlib.Omega.{arith}
 use lib.Dec.{ltb}
 use lib.IntN.{ℤ}
 use lib.ListN.{length}
-use Rattle.field.specs.Field.{plus, xor-from, doubled, times, times-from}
+use Rattle.field.specs.Field.{plus, xor-from, doubled, times, times-from, power, inverse}
 use Rattle.field.proofs.Power.{doublings, power-doublings}
 use Rattle.code.specs.Settings.{settings, settings-refusal, check-count, value-size}
-use Rattle.code.specs.Polynomial.{root, added, scaled, times-factor, generator}
+use Rattle.code.specs.Polynomial.{root, eval, added, scaled, times-factor, generator}
 use Rattle.code.specs.Plane.{byte-list}
 use Rattle.code.specs.Vector.{plane, each-long, is-vector, are-checks, same, differ-values}
 use Rattle.code.specs.Promise.{Repairs}
 use Rattle.code.proofs.Quick.{quick-summed, quick-zero-from, quick-word, quick-planes-from, quick-checks, checks-quick}
+use Rattle.code.proofs.Bytes.{all-from}
 use Rattle.code.proofs.Vector.{repairs}
+use Rattle.locator.specs.Locator.{massey, start, changed, longer, as-long, against, raised, quotient, value}
+use Rattle.locator.specs.Errors.{place-exponent, exponent}
 use Rattle.gradecast.specs.Promise.{holds}
-use Rattle.gradecast.proofs.Cases.{three-refused, four-opens, alone-holds}
-use Rattle.counting.specs.Value.{is-blank}
-use Rattle.counting.specs.Held.{Held, held-as}
-use Rattle.column.proofs.Lines.{first-of-later}
-use Rattle.level.specs.Level.{bits, signed, height, confident, placed, ascending, dropped, needed, without-ends, left, halved, middle, level-of, level-refusal}
-use Rattle.starred_cases.specs.Cases.{product, generator-is, checks-are, repaired-is, opening, alone-ends, level-is, Starred-cases, starred, All-hold, Holds, single, held-bytes, held-blank}
-use Rattle.starred_cases.proofs.NoneNear.{none-near-case}
+use Rattle.gradecast.proofs.Cases.{three-refused, four-opens, alone-holds, alone-finishes, alone-ends-in-four}
+use Rattle.gradecast.proofs.Testing.NoneNear.{quick-sum, right-at, plane-none, none-from, quick-none, none-quick}
+use Rattle.grading.specs.Value.{is-blank}
+use Rattle.grading.specs.Held.{Held, held-as}
+use Rattle.record.proofs.Refusal.{line-passed, first-of-next, first-of-last}
+use Rattle.level.specs.Level.{bits, signed, height, confident, placed, ascending, dropped, needed, without-ends, left, halved, middle, level-of, width-refusal, few-refusal, level-refusal}
+use Rattle.starred_cases.specs.Cases.{product, generator-is, checks-are, repaired-is, opening, alone-ends, none-near, level-is, Starred-cases, starred, All-hold, Alone, Finishes, Holds, single, held-bytes, held-blank}
 
 -- the first two roots, by doublings, and the generator by them
 root-first : root 0 ≡ 225
@@ -60,6 +63,12 @@ unfolding Holds Repairs
 repaired-case n t vs cs us r v u e d =
     repairs (settings n t 1) (single vs) (single us) (single cs) r v u (checks-quick (settings n t 1) (single us) (single cs) ∙ e) d
 
+-- checks that repair nothing
+none-case :
+    (n t : ℕ) (vs cs : List ℕ) → settings-refusal (settings n t 1) ≡ 0 → quick-none (settings n t 1) (single vs) (single cs) ≡ true → Holds (none-near n t vs cs)
+unfolding Holds
+none-case n t vs cs r e = none-quick (settings n t 1) (single vs) (single cs) r e
+
 opens-case : Holds (opening 4 1 1 (7 ∷ []) 0)
 unfolding Holds is-blank
 opens-case = four-opens 1 1 (7 ∷ []) (omega arith) (omega arith) (omega arith) (omega arith) refl refl
@@ -69,22 +78,26 @@ unfolding Holds
 refused-case = three-refused 1 1 (7 ∷ [])
 
 alone-case : Holds (alone-ends (7 ∷ []) 2)
-unfolding Holds holds
-alone-case run calls last small runs e = alone-holds run calls last small runs e
+unfolding Holds Finishes Alone holds
+alone-case run = ((_, _, (alone-finishes run, alone-ends-in-four run)), λ calls last a. alone-holds run calls last (a .0) (a .1))
 
 -- the heights held, in ascending order, give the level
 level-case :
     (n t : ℕ) (held : List Held) (hs : List ℤ) (l : ℤ) → confident held ≡ hs → ltb (length hs) (2 * t + 1) ≡ false →
     middle (without-ends t (ascending hs)) ≡ l → Holds (level-is n t held hs l)
-unfolding Holds level-refusal level-of left needed dropped settings
+unfolding Holds level-refusal width-refusal few-refusal level-of left needed dropped settings
 level-case n t held hs l heights many level = (
   heights,
-  λ r s h. (λ asked. first-of-later asked (first-of-later (rw s refl) (rw (s, h, heights, many) refl)), rw (s, h, heights) level),
+  λ r s h. (
+    λ asked. first-of-next _ asked (first-of-next _ (line-passed 21 _ (rw s refl)) (first-of-last _ ∙ line-passed 22 _ (rw (s, h, heights, many) refl))),
+    rw (s, h, heights) level,
+  ),
 )
 
 pub starred-cases : Starred-cases
 unfolding Starred-cases starred All-hold single times times-from doubled plus xor-from doublings settings check-count value-size quick-checks quick-planes-from
-    quick-word quick-zero-from quick-summed are-checks each-long byte-list plane settings-refusal is-vector same differ-values
+    quick-word quick-zero-from quick-summed quick-none none-from plane-none right-at quick-sum all-from massey start changed longer as-long
+    against raised quotient value place-exponent exponent eval added scaled power inverse are-checks each-long byte-list plane settings-refusal is-vector same differ-values
     held-bytes held-blank held-as bits signed height confident placed ascending without-ends halved middle
 starred-cases = (
   product-case _ _ _ refl,
@@ -96,7 +109,7 @@ starred-cases = (
         checks-case _ _ _ _ refl,
         (
           checks-case _ _ _ _ refl,
-          (repaired-case _ _ _ _ _ refl refl refl refl (omega arith), (repaired-case _ _ _ _ _ refl refl refl refl (omega arith), (none-near-case, (opens-case, (refused-case, (alone-case, (level-case _ _ _ _ _ refl refl refl, (level-case _ _ _ _ _ refl refl refl, tt)))))))),
+          (repaired-case _ _ _ _ _ refl refl refl refl (omega arith), (repaired-case _ _ _ _ _ refl refl refl refl (omega arith), (none-case _ _ _ _ refl refl, (opens-case, (refused-case, (alone-case, (level-case _ _ _ _ _ refl refl refl, (level-case _ _ _ _ _ refl refl refl, tt)))))))),
         ),
       ),
     ),

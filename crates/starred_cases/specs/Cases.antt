@@ -2,7 +2,7 @@
 use mathlib.Core.Path.{_≡_}
 use mathlib.Core.Bool.{true}
 use mathlib.Core.List.{List, [], _∷_}
-use Prim.Native.Nat.{ℕ, _<_}
+use Prim.Native.Nat.{ℕ}
 use lib.IntN.{ℤ, pos, negsuc}
 use lib.ListN.{length, getD}
 use Rattle.field.specs.Field.{times}
@@ -10,9 +10,9 @@ use Rattle.code.specs.Settings.{settings}
 use Rattle.code.specs.Polynomial.{generator}
 use Rattle.code.specs.Vector.{has-checks}
 use Rattle.code.specs.Repair.{Repaired, No-repair}
-use Rattle.counting.specs.Held.{Held, held-as}
-use Rattle.column.specs.Record.{Rec, opened}
-use Rattle.column.specs.Refusal.{open-refusal, ask-refusal}
+use Rattle.grading.specs.Held.{Held, held-as}
+use Rattle.record.specs.Record.{Rec, opened}
+use Rattle.record.specs.Refusal.{open-refusal, ask-refusal}
 use Rattle.column.specs.Call.{Call, Run}
 use Rattle.gradecast.specs.Promise.{none-held}
 use Rattle.level.specs.Level.{confident, level-of, level-refusal}
@@ -40,6 +40,15 @@ pub data Case : Type 0 where
   alone-ends : (own : List ℕ) → (confidence : ℕ) → Case
   level-is : (n t : ℕ) → (held : List Held) → (heights : List ℤ) → (level : ℤ) → Case
 
+-- a column alone, opened with a value, whose calls lead to the end
+unfoldable pub Alone : (run : ℕ) → (own : List ℕ) → (calls : List Call) → (last : Rec) → Type 0
+Alone run v calls last = Run (opened (settings 1 0 (length v)) 1 run v) calls last × (last .round ≡ 4)
+
+-- that there are such calls
+unfoldable pub Finishes : (run : ℕ) → (own : List ℕ) → Type 0
+Finishes run v = (calls : List Call) × (last : Rec) × Alone run v calls last
+
+-- what a case says
 unfoldable pub Holds : Case → Type 0
 Holds (product a b c) = times a b ≡ c
 Holds (generator-is m g) = generator m ≡ g
@@ -47,12 +56,10 @@ Holds (checks-are n t vs cs) = has-checks (settings n t 1) (single vs) (single c
 Holds (repaired-is n t vs cs us) = Repaired (settings n t 1) (single vs) (single cs) (single us)
 Holds (none-near n t vs cs) = No-repair (settings n t 1) (single vs) (single cs)
 Holds (opening n t k v a) = open-refusal (settings n t (length v)) k v ≡ a
-Holds (alone-ends v c) =
-    (run : ℕ) (calls : List Call) (last : Rec) → run < 65536 → Run (opened (settings 1 0 (length v)) 1 run v) calls last → last .round ≡ 4 →
-    getD (last .held) 0 none-held ≡ held-as v c
+Holds (alone-ends v c) = (run : ℕ) → Finishes run v × ((calls : List Call) (last : Rec) → Alone run v calls last → getD (last .found .held) 0 none-held ≡ held-as v c)
 Holds (level-is n t held hs l) =
     (confident held ≡ hs)
-    × ((r : Rec) → r .settings ≡ settings n t 4 → r .held ≡ held → (ask-refusal r ≡ 0 → level-refusal r ≡ 0) × (level-of r ≡ l))
+    × ((r : Rec) → r .who .settings ≡ settings n t 4 → r .found .held ≡ held → (ask-refusal r ≡ 0 → level-refusal r ≡ 0) × (level-of r ≡ l))
 
 unfoldable pub starred : List Case
 starred =

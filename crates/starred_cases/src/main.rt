@@ -1,6 +1,127 @@
-// The starred cases in compiled code: what is proved of the definitions comes out of the functions too.
-use check::expect;
+// Runs the starred cases in compiled code and prints what comes out, which is held to the stored lines. All but one: no call hands out a
+// generator, so that its case is one of the definitions alone.
+use libc::STDOUT_FILENO;
+use record::Column;
+
+fn wide(byte: u8) -> u32 {
+    byte as u32
+}
+
+fn print_bytes(bytes: &[u8]) {
+    let mut i = 0;
+    while i < bytes.len() {
+        io::write_all(STDOUT_FILENO, b" ");
+        io::print_decimal(STDOUT_FILENO, wide(bytes[i]) as u64);
+        i += 1;
+    }
+    io::write_all(STDOUT_FILENO, b"\n");
+}
+
+fn print_answer(answer: u32) {
+    io::print_decimal(STDOUT_FILENO, answer as u64);
+    io::write_all(STDOUT_FILENO, b"\n");
+}
+
+fn checks_of(vector: [u8; 4]) {
+    let mut checks = [0u8; 2];
+    code::check_values(4, 1, 1, &vector, &mut checks);
+    io::write_all(STDOUT_FILENO, b"checks");
+    print_bytes(&checks);
+}
+
+fn repaired_by(checks: [u8; 2]) {
+    let vector = [241u8, 86, 35, 35];
+    let mut output = [0u8; 4];
+    let answer = repair::repair(4, 1, 1, &vector, &checks, &mut output);
+    io::write_all(STDOUT_FILENO, b"repaired");
+    if answer == 256 {
+        io::write_all(STDOUT_FILENO, b" none\n");
+        return;
+    }
+    print_bytes(&output);
+}
+
+fn opened(n: u32) {
+    let outcome = column::open(n, 1, 1, 1, 0, b"\x07");
+    io::write_all(STDOUT_FILENO, b"opening ");
+    print_answer(outcome.answer);
+}
+
+// A column alone, through its three rounds.
+fn alone() {
+    let opening = column::open(1, 0, 1, 1, 0, b"\x07");
+    let one = column::close(opening.column);
+    let two = column::close(one.column);
+    let three = column::close(two.column);
+    let held = column::result(three.column);
+    let values = held.values;
+    let confidences = held.confidences;
+    io::write_all(STDOUT_FILENO, b"alone ");
+    print_answer(wide(values[0]));
+    io::write_all(STDOUT_FILENO, b"confidence ");
+    print_answer(wide(confidences[0]));
+}
+
+// The level of a column that has finished with these values of four bytes.
+fn levelled(n: u32, t: u32, values: [u8; 256], confidences: [u8; 32], expected: i64) {
+    let mut column = record::empty();
+    let mut who = column.who;
+    who.n = n;
+    who.t = t;
+    who.w = 4;
+    who.number = 1;
+    who.own = [1u8; 8];
+    let mut found = column.found;
+    found.values = values;
+    found.confidences = confidences;
+    column.who = who;
+    column.found = found;
+    column.round = 4;
+    let level = level::level(column);
+    if level.answer == 0 && level.level == expected {
+        io::write_all(STDOUT_FILENO, b"level as worked out by hand\n");
+    } else {
+        io::write_all(STDOUT_FILENO, b"another level\n");
+    }
+}
+
+fn levels() {
+    let mut values = [0u8; 256];
+    let mut confidences = [0u8; 32];
+    confidences[0] = 2;
+    confidences[1] = 2;
+    confidences[2] = 2;
+    values[2] = 3;
+    values[3] = 232;
+    values[6] = 3;
+    values[7] = 236;
+    values[10] = 3;
+    values[11] = 242;
+    levelled(4, 1, values, confidences, 1004);
+}
+
+fn levels_below_zero() {
+    let mut values = [255u8; 256];
+    let mut confidences = [0u8; 32];
+    confidences[0] = 2;
+    confidences[1] = 2;
+    values[3] = 251;
+    values[7] = 254;
+    levelled(2, 0, values, confidences, -4);
+}
 
 fn main() {
-    expect(field::product(2, 128) == 135);
+    io::write_all(STDOUT_FILENO, b"product ");
+    print_answer(wide(field::product(2, 128)));
+    checks_of([241, 86, 35, 35]);
+    checks_of([241, 86, 35, 40]);
+    checks_of([241, 86, 35, 0]);
+    repaired_by([0, 136]);
+    repaired_by([22, 61]);
+    repaired_by([22, 77]);
+    opened(4);
+    opened(3);
+    alone();
+    levels();
+    levels_below_zero();
 }

@@ -1,5 +1,5 @@
 // Stored vectors of the code calls, read from standard input: what a call is given, and what it must answer and leave in
-// the output lent to it. vectors/make.c says how a record is laid out.
+// the output lent to it. models/vectors/make.c says how a record is laid out.
 ghost use mathlib.Core.Path.{_≡_};
 ghost use Prim.Native.Nat.{_≤_};
 ghost use Rattle.io.specs.Counts.{Counts};
