@@ -9,25 +9,26 @@ use native.Mathlib.Omega.{arith}
 use lib.ListN.{getD}
 use borrow.Author.Tests.{le-leb, le-ltb, eq-eqb}
 use Rattle.code.specs.Settings.{Settings, settings-refusal}
-use Rattle.counting.specs.Value.{Value}
-use Rattle.counting.proofs.Bool.{true-not-false}
-use Rattle.column.specs.Record.{Rec, opened, is-taken, next-round}
-use Rattle.column.specs.Refusal.{open-refusal, record-refusal, round-refusal, close-refusal, send-refusal, ask-refusal}
-use Rattle.column.specs.Call.{Call, taking, closing, Closed, After-close, Leads, Run, no-call, one-call, Frame-of}
-use Rattle.column.specs.View.{settings-of, view}
-use Rattle.column.specs.declared.record.Column.{Column}
-use Rattle.column.proofs.Refusal.{Opens, opens-of}
-use Rattle.column.proofs.Lines.{first-of-later, send-lines}
-use Rattle.column.proofs.Size.{frame-fits-slot}
+use Rattle.grading.specs.Value.{Value}
+use Rattle.grading.proofs.Bool.{true-not-false}
+use Rattle.record.specs.Frame.{longest-frame}
+use Rattle.record.specs.Record.{Rec, who-as, opened, is-taken, next-round}
+use Rattle.record.specs.Refusal.{line, open-refusal, record-refusal, round-refusal, room-refusal, unfinished-refusal, close-refusal, send-refusal, ask-refusal}
+use Rattle.column.specs.Call.{Call, taking, closing, After-close, Leads, Run, no-call, one-call, Frame-of}
+use Rattle.rounds.specs.Exchange.{Closed}
+use Rattle.record.specs.View.{settings-of, who-in, view}
+use Rattle.record.specs.declared.Column.{Column}
+use Rattle.record.proofs.Refusal.{first-of-next, first-of-last, Opens, opens-of}
+use Rattle.record.proofs.Size.{frame-fits-slot}
 use Rattle.column.proofs.Step.{step-of, after-take-round}
 use Rattle.gradecast.proofs.Proper.{Proper, proper-open, proper-fine, proper-step}
-use Rattle.bench.specs.Said.{Said, own-of, is-good}
+use Rattle.bench_file.specs.Said.{Said, own-of, is-good}
 use Rattle.bench.specs.Group.{bench-run, taking-first, calls-from, round-calls}
 use Rattle.bench.specs.Finished.{Finished, record-of, column-past, All-finished}
 use Rattle.bench.specs.Running.{Round-run, Group-ran}
 
 -- the first call of a run
-run-head : {r z : Rec} {ds : List Call} → Run r ds z → (c : Call) (cs : List Call) → ds ≡ c ∷ cs → (q : Rec) × Leads c r q × Run q cs z
+pub run-head : {r z : Rec} {ds : List Call} → Run r ds z → (c : Call) (cs : List Call) → ds ≡ c ∷ cs → (q : Rec) × Leads c r q × Run q cs z
 run-head (no-call r) c cs e = absurd (let z : _≡_ {A = ℕ} 0 1 = cc in omega arith)
 run-head (one-call r q z d ds l p) c cs e =
     let call : d ≡ c = cc in
@@ -39,17 +40,26 @@ run-none (no-call r) e = refl
 run-none (one-call r q z d ds l p) e = absurd (let x : _≡_ {A = ℕ} 0 1 = cc in omega arith)
 
 -- calls that are not refused
-close-fine : (r : Rec) → record-refusal r ≡ 0 → 1 ≤ r .round → r .round ≤ 3 → close-refusal r ≡ 0
-unfolding close-refusal round-refusal
-close-fine r fine low high = first-of-later fine (rw (le-leb 1 (r .round) low, le-leb (r .round) 3 high) refl)
+round-fine : (m : ℕ) → 1 ≤ m → m ≤ 3 → round-refusal m ≡ 0
+unfolding round-refusal line
+round-fine m low high = rw (le-leb 1 m low, le-leb m 3 high) refl
 
-send-fine : (r : Rec) → record-refusal r ≡ 0 → settings-refusal (r .settings) ≡ 0 → 1 ≤ r .round → r .round ≤ 3 → send-refusal r 164 ≡ 0
+close-fine : (r : Rec) → record-refusal (r .who) ≡ 0 → 1 ≤ r .round → r .round ≤ 3 → close-refusal r ≡ 0
+unfolding close-refusal
+close-fine r fine low high = first-of-next _ fine (first-of-last _ ∙ round-fine (r .round) low high)
+
+room-fine : (s : Settings) (m : ℕ) → settings-refusal s ≡ 0 → room-refusal s m longest-frame ≡ 0
+unfolding room-refusal line
+room-fine s m right = rw (le-ltb longest-frame _ (frame-fits-slot s m right)) refl
+
+send-fine : (r : Rec) → record-refusal (r .who) ≡ 0 → settings-refusal (r .who .settings) ≡ 0 → 1 ≤ r .round → r .round ≤ 3 → send-refusal r longest-frame ≡ 0
+unfolding send-refusal
 send-fine r fine right low high =
-    send-lines r 164 ∙ first-of-later (close-fine r fine low high) (rw (le-ltb 164 _ (frame-fits-slot (r .settings) (r .round) right)) refl)
+    first-of-next _ fine (first-of-next _ (round-fine (r .round) low high) (first-of-last _ ∙ room-fine (r .who .settings) (r .round) right))
 
-ask-fine : (r : Rec) → record-refusal r ≡ 0 → r .round ≡ 4 → ask-refusal r ≡ 0
-unfolding ask-refusal
-ask-fine r fine e = first-of-later fine (rw (eq-eqb (r .round) 4 e) refl)
+ask-fine : (r : Rec) → record-refusal (r .who) ≡ 0 → r .round ≡ 4 → ask-refusal r ≡ 0
+unfolding ask-refusal unfinished-refusal line
+ask-fine r fine e = first-of-next _ fine (first-of-last _ ∙ simp (eq-eqb (r .round) 4 e))
 
 closed-round : (m : ℕ) (r q : Rec) → 1 ≤ m → m ≤ 3 → Closed m r q → q .round ≡ suc (r .round)
 unfolding Closed next-round
@@ -104,8 +114,8 @@ good-own f k e = go (own-of (f .owns) k) refl e
     go none g h = true-not-false (sym h)
     go (some v) g h = (v, g)
 
-settings-viewed : (c : Column) → settings-of c ≡ view c .settings
-unfolding view
+settings-viewed : (c : Column) → settings-of (c .who) ≡ view c .who .settings
+unfolding view who-in who-as
 settings-viewed c = refl
 
 -- four things by round

@@ -11,12 +11,12 @@ use lib.Dec.{eqb}
 use lib.ListN.{length, getD, set, take, drop}
 use lib.Seq.{getD-set-same, getD-set-other}
 use borrow.Author.Tests.{eqb-true, eqb-false, eq-eqb, ne-eqb}
-use Rattle.column.specs.Frame.{header}
-use Rattle.column.specs.Record.{Rec}
+use Rattle.record.specs.Frame.{header}
+use Rattle.record.specs.Record.{Rec}
 use Rattle.column.specs.Call.{Call, taking, closing, Leads, Run, no-call, one-call}
-use Rattle.bench.specs.Said.{Said, is-good, message-of}
+use Rattle.bench_file.specs.Said.{Said, is-good, message-of}
 use Rattle.bench.specs.Group.{bench-run, framed, heard-in, taking-first, calls-from}
-use Rattle.bench.specs.Places.{Stands}
+use Rattle.bench_file.specs.Places.{Stands}
 use Rattle.bench.specs.Running.{Hears}
 
 -- places

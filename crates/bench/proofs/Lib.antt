@@ -1,12 +1,8 @@
 pub mod Text
 pub mod Decimal
-pub mod Standing
-pub mod Faults
-pub mod Readings
-pub mod Steps
 pub mod Wording
 pub mod Hearing
 pub mod Exchanged
 pub mod Output
 pub mod OneRun
-pub mod Sound
+pub mod OneOutput

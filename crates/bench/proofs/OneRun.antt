@@ -16,17 +16,17 @@ use Rattle.code.specs.Entry.{values-in}
 use Rattle.code.specs.Promise.{Checks-there}
 use Rattle.code.proofs.Checks.{checks-there}
 use Rattle.code.proofs.Cut.{glued-cut}
-use Rattle.counting.specs.Value.{Value, Vector}
-use Rattle.column.specs.Frame.{operand-size, frame-size, operand-in, checks-in}
-use Rattle.column.specs.Record.{Rec, opened}
-use Rattle.column.specs.Refusal.{open-refusal}
+use Rattle.grading.specs.Value.{Value, Vector}
+use Rattle.record.specs.Frame.{operand-size, frame-size, operand-in, checks-in}
+use Rattle.record.specs.Record.{Rec, opened}
+use Rattle.record.specs.Refusal.{open-refusal}
 use Rattle.column.specs.Call.{Call, Run, Passes, here, later, Operand, Frame-of}
-use Rattle.column.proofs.Refusal.{Opens, opens-of}
+use Rattle.record.proofs.Refusal.{Opens, opens-of}
 use Rattle.column.proofs.Frame.{operand-length}
-use Rattle.column.proofs.Rows.{Sized, checked-vector}
+use Rattle.rounds.proofs.Rows.{Sized, checked-vector}
 use Rattle.gradecast.proofs.Proper.{proper-open}
 use Rattle.gradecast.proofs.Walk.{run-passes, to-last}
-use Rattle.bench.specs.Said.{Said, own-of, is-good, message-of}
+use Rattle.bench_file.specs.Said.{Said, own-of, is-good, message-of}
 use Rattle.bench.specs.Group.{bench-run, framed, heard-in, taking-first, calls-from, round-calls, Group-run}
 use Rattle.bench.specs.Listing.{group-line, listing}
 use Rattle.bench.specs.Promise.{One-listing}
@@ -54,24 +54,24 @@ passes-none (later r q z c cs rest l p) e = absurd (let x : _≡_ {A = ℕ} 0 1 
 module _ (s : Settings) (k : ℕ) (v : Value) (o : Opens s k v) where
   -- the operand and the frame of a round
   operand-unique :
-      (m : ℕ) (r : Rec) (x y : List ℕ) → In-round s k v m r → length x ≡ operand-size s m → length y ≡ operand-size s m → Operand m r x → Operand m r y → x ≡ y
+      (m : ℕ) (r : Rec) (x y : List ℕ) → In-round s k v m r → length x ≡ operand-size s m → length y ≡ operand-size s m → Operand m (r .who) (r .found) x → Operand m (r .who) (r .found) y → x ≡ y
   unfolding Operand operand-size
   operand-unique zero r x y p long also a b = absurd a
   operand-unique (suc zero) r x y p long also a b = a ∙ sym b
   operand-unique (suc (suc zero)) r x y p long also a b =
-      checks-unique s (r .heard) x y (o .fine) (p .proper .heard (omega (arith, p .round))) long also (rw (p .proper .settings) at a) (rw (p .proper .settings) at b)
+      checks-unique s (r .found .heard) x y (o .fine) (p .proper .heard (omega (arith, p .round))) long also (rw (p .proper .settings) at a) (rw (p .proper .settings) at b)
   operand-unique (suc (suc (suc zero))) r x y p long also a b =
-      checks-unique s (r .agreed) x y (o .fine) (p .proper .agreed (omega (arith, p .round))) long also (rw (p .proper .settings) at a) (rw (p .proper .settings) at b)
+      checks-unique s (r .found .agreed) x y (o .fine) (p .proper .agreed (omega (arith, p .round))) long also (rw (p .proper .settings) at a) (rw (p .proper .settings) at b)
   operand-unique (suc (suc (suc (suc m)))) r x y p long also a b = absurd a
 
   frame-unique : (m : ℕ) (r : Rec) (a b : List ℕ) → In-round s k v m r → Frame-of r a → Frame-of r b → a ≡ b
   unfolding Frame-of operand-in
   frame-unique m r a b p x y =
-      let size : (bs : List ℕ) → length bs ≡ frame-size (r .settings) (r .round) → length (drop 4 bs) ≡ operand-size s m =
-      λ bs e. operand-length (r .settings) (r .round) bs e ∙ ap₂ operand-size (p .proper .settings) (p .round) in
+      let size : (bs : List ℕ) → length bs ≡ frame-size (r .who .settings) (r .round) → length (drop 4 bs) ≡ operand-size s m =
+      λ bs e. operand-length (r .who .settings) (r .round) bs e ∙ ap₂ operand-size (p .proper .settings) (p .round) in
       let same =
-      operand-unique m r (drop 4 a) (drop 4 b) p (size a (x .1)) (size b (y .1)) (subst (λ (i : ℕ). Operand i r (drop 4 a)) (p .round) (x .2))
-      (subst (λ (i : ℕ). Operand i r (drop 4 b)) (p .round) (y .2)) in
+      operand-unique m r (drop 4 a) (drop 4 b) p (size a (x .1)) (size b (y .1)) (subst (λ (i : ℕ). Operand i (r .who) (r .found) (drop 4 a)) (p .round) (x .2))
+      (subst (λ (i : ℕ). Operand i (r .who) (r .found) (drop 4 b)) (p .round) (y .2)) in
       sym (take-append-drop 4 a) ∙ ap₂ _++_ (x .0 ∙ sym (y .0)) same ∙ take-append-drop 4 b
 
   run-unique : (m : ℕ) (r q z : Rec) (cs : List Call) → In-round s k v m r → Run r cs q → Run r cs z → q ≡ z
@@ -102,7 +102,7 @@ calls-alike heard others (suc n) k h = ap₂ (taking-first k) (h k) (calls-alike
 
 module _ (f : Said) (opens : (k : ℕ) (v : Value) → own-of (f .owns) k ≡ some v → open-refusal (f .settings) k v ≡ 0) where
   -- every record of a run is in its round
-  in-round :
+  pub in-round :
       (records : ℕ → ℕ → Rec) (frames : ℕ → ℕ → List ℕ) → Group-run f records frames → (k : ℕ) (v : Value) → own-of (f .owns) k ≡ some v →
       is-good f k ≡ true → (m : ℕ) → 1 ≤ m → m ≤ 4 → In-round (f .settings) k v m (records m k)
   unfolding round-calls
@@ -147,5 +147,5 @@ pub one-listing : One-listing
 unfolding One-listing listing
 one-listing f records others frames sent opens one two =
     ap (_++_ (group-line (f .settings)))
-    (lines-same f (λ k. records 4 k .held) (λ k. others 4 k .held) (f .settings .n) 1
-    (λ j good. ap (λ (r : Rec). r .held) (same-records f opens records others frames sent one two 4 (omega arith) (omega arith) j good)))
+    (lines-same f (λ k. records 4 k .found .held) (λ k. others 4 k .found .held) (f .settings .n) 1
+    (λ j good. ap (λ (r : Rec). r .found .held) (same-records f opens records others frames sent one two 4 (omega arith) (omega arith) j good)))

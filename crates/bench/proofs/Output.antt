@@ -9,17 +9,17 @@ use lib.Dec.{ltb}
 use lib.ListN.{length, drop, length-append}
 use borrow.Author.Tests.{ltb-true, ltb-false}
 use Rattle.code.specs.Entry.{in-front}
-use Rattle.column.specs.Record.{Rec}
-use Rattle.column.specs.declared.record.Column.{Column}
-use Rattle.bench.specs.Said.{Said}
-use Rattle.bench.specs.File.{Told, refused, said}
+use Rattle.record.specs.Record.{Rec}
+use Rattle.record.specs.declared.Column.{Column}
+use Rattle.bench_file.specs.Said.{Said}
+use Rattle.bench_file.specs.File.{Told, refused, said}
 use Rattle.bench.specs.Listing.{group-line, listing, refused-line}
 use Rattle.bench.specs.Entry.{listing-room, Printed, Bench-says}
-use Rattle.bench.specs.Places.{Located}
-use Rattle.bench.specs.Reading.{Parsed-as}
+use Rattle.bench_file.specs.Places.{Located}
+use Rattle.bench_file.specs.Reading.{Parsed-as}
 use Rattle.bench.specs.Finished.{record-of}
 use Rattle.bench.specs.Running.{Group-ran}
-use Rattle.bench.specs.declared.places.Places.{Places}
+use Rattle.bench_file.specs.declared.places.Places.{Places}
 use Rattle.bench.proofs.Wording.{lines-same}
 
 module _ (file : List ℕ) (answer : ℕ) (p : Places) where
@@ -39,7 +39,7 @@ module _ (file : List ℕ) (answer : ℕ) (p : Places) where
   said-located (said f) h e = (f, refl, h .1)
 
 -- the listing of the run
-pub run-printed : (t : Told) (f : Said) (columns : List Column) → t ≡ said f → Group-ran f columns → Printed t (listing f (λ k. record-of columns k .held))
+pub run-printed : (t : Told) (f : Said) (columns : List Column) → t ≡ said f → Group-ran f columns → Printed t (listing f (λ k. record-of columns k .found .held))
 unfolding Printed listing
 run-printed t f columns e ran =
     rw e (
@@ -47,7 +47,7 @@ run-printed t f columns e ran =
       ran .frames,
       ran .run,
       ap (_++_ (group-line (f .settings)))
-          (lines-same f (λ k. record-of columns k .held) (λ k. ran .records 4 k .held) (f .settings .n) 1 (λ j good. ap (λ (r : Rec). r .held) (sym (ran .last j)))),
+          (lines-same f (λ k. record-of columns k .found .held) (λ k. ran .records 4 k .found .held) (f .settings .n) 1 (λ j good. ap (λ (r : Rec). r .found .held) (sym (ran .last j)))),
     )
 
 -- what the bench answers is never more than the output has

@@ -8,7 +8,7 @@ use native.Mathlib.Omega.{arith}
 use lib.ListN.{length, set, take, drop, length-append, length-drop, take-append-drop}
 use lib.Seq.{length-take-le, take-at, drop-at, drop-drop, set-split}
 use Rattle.code.specs.Entry.{in-front}
-use Rattle.column.proofs.Front.{front-value}
+use Rattle.record.proofs.Front.{front-value}
 use Rattle.bench.specs.Printing.{put-at, Put}
 
 -- what stands before the place and the text are as long as the place behind

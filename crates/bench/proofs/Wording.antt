@@ -9,14 +9,16 @@ use native.Mathlib.Omega.{arith}
 use lib.ListN.{length, getD, take, drop, length-append, length-take}
 use lib.Seq.{drop-cons}
 use Rattle.code.specs.Settings.{settings, value-size}
+use Rattle.code.specs.Size.{most-columns, value-room, vector-room}
 use Rattle.code.specs.Vector.{cut}
 use Rattle.code.specs.Entry.{values-in}
 use Rattle.code.proofs.Cut.{value-fits, values-fit}
-use Rattle.counting.specs.Value.{Value, is-blank, entries}
-use Rattle.counting.specs.Held.{Held, held-as, held-in}
+use Rattle.grading.specs.Value.{Value, is-blank, entries}
+use Rattle.grading.specs.Held.{Held, held-as, held-in}
 use Rattle.counting.proofs.Placed.{cut-at}
-use Rattle.bench.specs.Said.{Said, is-good}
+use Rattle.bench_file.specs.Said.{Said, is-good}
 use Rattle.bench.specs.Listing.{decimal, pointed, joined, value-text, held-text, holdings-text, column-line, column-lines}
+use Rattle.bench.specs.Entry.{line-room}
 use Rattle.bench.proofs.Decimal.{decimal-short, two-short}
 
 -- bytes joined by a point
@@ -49,7 +51,7 @@ pub filled-text : (v : Value) → is-blank v ≡ false → value-text v ≡ join
 unfolding value-text
 filled-text v e = rw e refl
 
-value-short : (v : Value) → length v ≤ 8 → length (value-text v) ≤ 31
+value-short : (v : Value) → length v ≤ value-room → length (value-text v) ≤ 31
 unfolding value-text
 value-short v h = go (is-blank v)
   where
@@ -86,22 +88,22 @@ holdings-next n w vs cs j h =
     (ap (λ (v : Value). (32 ∷ held-text (held-as v (getD cs j 0))) ++ holdings-text (entries (n - (j + 1)) (j + 1) (held-entry n w vs cs))) (cut-at n w vs j h))
 
 -- a value's place in the array of all
-pub value-in : (n w j : ℕ) → n ≤ 32 → w ≤ 8 → j < n → j * w + w ≤ 256
-value-in n w j h l k = omega (arith, value-fits j 32 w (omega arith), values-fit 32 w (omega arith) l)
+pub value-in : (n w j : ℕ) → n ≤ most-columns → w ≤ value-room → j < n → j * w + w ≤ vector-room
+value-in n w j h l k = omega (arith, value-fits j most-columns w (omega arith), values-fit most-columns w (omega arith) l)
 
 -- lengths of a line
-held-short : (v : Value) (confidence : ℕ) → length v ≤ 8 → length (held-text (held-as v confidence)) ≤ 35
+held-short : (v : Value) (confidence : ℕ) → length v ≤ value-room → length (held-text (held-as v confidence)) ≤ 35
 unfolding held-text held-as
 held-short v c h = simp length-append (omega (arith, value-short v h, decimal-short c))
 
-value-length : (n w : ℕ) (vs : List ℕ) (i : ℕ) → w ≤ 8 → length (getD (values-in (settings n 0 w) n vs) i []) ≤ 8
+value-length : (n w : ℕ) (vs : List ℕ) (i : ℕ) → w ≤ value-room → length (getD (values-in (settings n 0 w) n vs) i []) ≤ value-room
 unfolding values-in cut settings value-size
 value-length zero w vs i h = omega arith
 value-length (suc n) w vs zero h = omega (arith, length-take w vs)
 value-length (suc n) w vs (suc i) h = value-length n w (drop w vs) i h
 
 holdings-short :
-    (many j n w : ℕ) (vs cs : List ℕ) → w ≤ 8 → j + many ≤ n → length (holdings-text (entries many j (held-entry n w vs cs))) ≤ 36 * many
+    (many j n w : ℕ) (vs cs : List ℕ) → w ≤ value-room → j + many ≤ n → length (holdings-text (entries many j (held-entry n w vs cs))) ≤ 36 * many
 unfolding holdings-text entries held-entry held-as
 holdings-short zero j n w vs cs h l = omega arith
 holdings-short (suc k) j n w vs cs h l =
@@ -110,7 +112,7 @@ holdings-short (suc k) j n w vs cs h l =
     held-short-at : (i : ℕ) → length (held-text (held-entry n w vs cs i)) ≤ 35
     held-short-at i = held-short (getD (values-in (settings n 0 w) n vs) i []) (getD cs i 0) (value-length n w vs i h)
 
-pub line-short : (k n w : ℕ) (vs cs : List ℕ) → k < 100 → n ≤ 32 → w ≤ 8 → length (column-line k (held-in (settings n 0 w) vs cs)) ≤ 1155
+pub line-short : (k n w : ℕ) (vs cs : List ℕ) → k < 100 → n ≤ most-columns → w ≤ value-room → length (column-line k (held-in (settings n 0 w) vs cs)) ≤ line-room
 unfolding column-line held-in held-entry settings
 line-short k n w vs cs h l m =
     simp length-append (omega (arith, two-short k h, holdings-short n 0 n w vs cs m (omega arith)))

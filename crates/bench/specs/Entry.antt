@@ -3,23 +3,28 @@ use mathlib.Core.Path.{_≡_}
 use mathlib.Core.List.{List}
 use Prim.Native.Nat.{ℕ, _+_, _*_, _≤_, _<_}
 use lib.ListN.{length}
+use Rattle.code.specs.Size.{most-columns}
 use Rattle.code.specs.Entry.{in-front}
-use Rattle.column.specs.Record.{Rec}
-use Rattle.bench.specs.File.{Told, refused, said, file-told}
+use Rattle.record.specs.Record.{Rec}
+use Rattle.bench_file.specs.File.{Told, refused, said, file-told}
 use Rattle.bench.specs.Group.{Group-run}
 use Rattle.bench.specs.Listing.{listing, refused-line}
 
--- room for every listing: 14 bytes for the settings, and for each of 32 lines 2 for the number, 36 for each of 32 columns' values of eight
--- bytes with three digits, and 1 for the line feed
+-- room for every line of a column: 2 bytes for its number, 36 for each column's value of eight bytes with three digits and its confidence,
+-- and 1 for the line feed
+abbrev pub line-room : ℕ
+line-room = 2 + most-columns * 36 + 1
+
+-- room for every listing: 14 bytes for the settings, and the lines
 unfoldable pub listing-room : ℕ
-listing-room = 14 + 32 * (2 + 32 * 36 + 1)
+listing-room = 14 + most-columns * line-room
 
 -- the output for what a file comes to: "refused N" and nothing else, or the listing of the group's run
 unfoldable pub Printed : Told → (text : List ℕ) → Type 0
 Printed (refused n) text = text ≡ refused-line n
 Printed (said f) text =
     (records : (round column : ℕ) → Rec) × (frames : (round column : ℕ) → List ℕ) × Group-run f records frames
-    × (text ≡ listing f (λ k. records 4 k .held))
+    × (text ≡ listing f (λ k. records 4 k .found .held))
 
 -- `bench`: an output that may be too short for a listing keeps every byte, and the answer is 0; else the output of the file in
 -- front, the rest kept, and how many bytes it has, which are never 0

@@ -5,34 +5,26 @@ use mathlib.Core.List.{List, []}
 use Prim.Native.Nat.{ℕ, _-_, _≤_}
 use lib.ListN.{getD}
 use Rattle.code.specs.Settings.{Settings}
-use Rattle.column.specs.Record.{Rec}
-use Rattle.column.specs.Refusal.{ask-refusal}
-use Rattle.column.specs.View.{settings-of, view}
-use Rattle.column.specs.declared.record.Column.{Column}
-use Rattle.bench.specs.Said.{Said, is-good}
+use Rattle.record.specs.Record.{Rec}
+use Rattle.record.specs.Refusal.{ask-refusal}
+use Rattle.record.specs.View.{settings-of, view}
+use Rattle.record.specs.declared.Column.{Column}
+use Rattle.bench_file.specs.Said.{Said, is-good}
 
 -- its result is answered, with the group's settings
 pub record Finished (s : Settings) (c : Column) : Type 0 where
   pub answered : ask-refusal (view c) ≡ 0
-  pub settings : settings-of c ≡ s
+  pub settings : settings-of (c .who) ≡ s
 
 -- what stands for a column past the last
 abbrev pub column-past : Column
 column-past =
     record {
-      n = 0;
-      t = 0;
-      w = 0;
-      number = 0;
+      who = record { n = 0; t = 0; w = 0; number = 0; run = 0; own = [] };
+      slots = [];
+      found = record { heard = []; agreed = []; values = []; confidences = [] };
       round = 0;
       refused = 0;
-      run = 0;
-      own = [];
-      slots = [];
-      heard = [];
-      agreed = [];
-      values = [];
-      confidences = [];
     }
 
 -- the record of a column, of all that the program holds

@@ -6,11 +6,11 @@ use mathlib.Core.List.{List, [], _∷_, _++_}
 use mathlib.Core.Option.{Option, none, some}
 use Prim.Native.Nat.{ℕ, zero, suc, _≤_}
 use lib.Dec.{eqb}
-use Rattle.counting.specs.Value.{Value}
-use Rattle.column.specs.Frame.{header}
-use Rattle.column.specs.Record.{Rec, opened}
+use Rattle.grading.specs.Value.{Value}
+use Rattle.record.specs.Frame.{header}
+use Rattle.record.specs.Record.{Rec, opened}
 use Rattle.column.specs.Call.{Call, taking, closing, Run, Frame-of}
-use Rattle.bench.specs.Said.{Said, own-of, is-good, message-of}
+use Rattle.bench_file.specs.Said.{Said, own-of, is-good, message-of}
 
 -- the run number of a bench's exchange
 unfoldable pub bench-run : ℕ

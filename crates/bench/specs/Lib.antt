@@ -1,12 +1,7 @@
-pub mod Said
-pub mod Command
-pub mod File
 pub mod Group
 pub mod Listing
 pub mod Entry
 pub mod Promise
 pub mod Printing
-pub mod Places
-pub mod Reading
 pub mod Finished
 pub mod Running

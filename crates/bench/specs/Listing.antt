@@ -4,9 +4,9 @@ use mathlib.Core.List.{List, [], _∷_, _++_}
 use Prim.Native.Nat.{ℕ, zero, suc, _+_, _/_, _%_}
 use lib.Dec.{ltb}
 use Rattle.code.specs.Settings.{Settings}
-use Rattle.counting.specs.Value.{Value, is-blank}
-use Rattle.counting.specs.Held.{Held}
-use Rattle.bench.specs.Said.{Said, is-good}
+use Rattle.grading.specs.Value.{Value, is-blank}
+use Rattle.grading.specs.Held.{Held}
+use Rattle.bench_file.specs.Said.{Said, is-good}
 
 -- one decimal digit
 unfoldable pub digit : ℕ → List ℕ

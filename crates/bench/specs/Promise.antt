@@ -3,13 +3,13 @@ use mathlib.Core.Path.{_≡_}
 use mathlib.Core.List.{List}
 use mathlib.Core.Option.{some}
 use Prim.Native.Nat.{ℕ}
-use Rattle.counting.specs.Value.{Value}
-use Rattle.column.specs.Record.{Rec}
-use Rattle.column.specs.Refusal.{open-refusal}
-use Rattle.bench.specs.Said.{Said, own-of}
+use Rattle.grading.specs.Value.{Value}
+use Rattle.record.specs.Record.{Rec}
+use Rattle.record.specs.Refusal.{open-refusal}
+use Rattle.bench_file.specs.Said.{Said, own-of}
 use Rattle.bench.specs.Group.{Group-run}
 use Rattle.bench.specs.Listing.{listing}
-use Rattle.bench.specs.File.{file-told}
+use Rattle.bench_file.specs.File.{file-told}
 use Rattle.bench.specs.Entry.{Printed}
 
 -- a group whose own values can be opened with has one listing, however its run is worked out
@@ -17,7 +17,7 @@ unfoldable pub One-listing : Type 0
 One-listing =
     (f : Said) (records others : (round column : ℕ) → Rec) (frames sent : (round column : ℕ) → List ℕ) →
     ((k : ℕ) (v : Value) → own-of (f .owns) k ≡ some v → open-refusal (f .settings) k v ≡ 0) → Group-run f records frames →
-    Group-run f others sent → listing f (λ k. records 4 k .held) ≡ listing f (λ k. others 4 k .held)
+    Group-run f others sent → listing f (λ k. records 4 k .found .held) ≡ listing f (λ k. others 4 k .found .held)
 
 -- the bench has one output for a file
 unfoldable pub One-output : Type 0

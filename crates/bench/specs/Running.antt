@@ -5,12 +5,12 @@ use mathlib.Core.Option.{Option, none, some}
 use Prim.Native.Nat.{ℕ, _-_, _≤_}
 use lib.ListN.{getD, take}
 use Rattle.code.specs.Settings.{Settings}
-use Rattle.column.specs.Frame.{frame-size}
-use Rattle.column.specs.Record.{Rec}
-use Rattle.column.specs.Refusal.{send-refusal}
+use Rattle.record.specs.Frame.{longest-frame, frame-size}
+use Rattle.record.specs.Record.{Rec}
+use Rattle.record.specs.Refusal.{send-refusal}
 use Rattle.column.specs.Call.{after-take, Run, Frame-of}
-use Rattle.column.specs.declared.record.Column.{Column}
-use Rattle.bench.specs.Said.{Said}
+use Rattle.record.specs.declared.Column.{Column}
+use Rattle.bench_file.specs.Said.{Said}
 use Rattle.bench.specs.Group.{round-calls, Group-run}
 use Rattle.bench.specs.Finished.{record-of, All-finished}
 use Rattle.bench.specs.declared.group.Frame.{Frame}
@@ -36,7 +36,7 @@ frame-at xs k = getD xs (k - 1) frame-past
 pub record Round-run (f : Said) (round : ℕ) (columns columns-now : List Column) : Type 0 where
   pub frames : ℕ → List ℕ
   pub sends :
-      (k : ℕ) → 1 ≤ k → k ≤ f .settings .n → send-refusal (record-of columns k) 164 ≡ 0 → record-of columns k .settings ≡ f .settings →
+      (k : ℕ) → 1 ≤ k → k ≤ f .settings .n → send-refusal (record-of columns k) longest-frame ≡ 0 → record-of columns k .who .settings ≡ f .settings →
       record-of columns k .round ≡ round → Frame-of (record-of columns k) (frames k)
   pub calls : (k : ℕ) → 1 ≤ k → k ≤ f .settings .n → Run (record-of columns k) (round-calls f frames round k) (record-of columns-now k)
 

@@ -5,26 +5,33 @@ ghost use mathlib.Core.Option.{some};
 ghost use Prim.Native.Nat.{ℕ, _+_, _≤_, _<_};
 ghost use lib.ListN.{length, take};
 ghost use Rattle.code.specs.Settings.{settings};
-ghost use Rattle.counting.specs.Value.{Value};
-ghost use Rattle.column.specs.Frame.{header, operand-size};
-ghost use Rattle.column.specs.Record.{opened as «opened-as»};
-ghost use Rattle.column.specs.Refusal.{send-refusal};
+ghost use Rattle.code.specs.Size.{most-columns, value-room, checks-room};
+ghost use Rattle.grading.specs.Value.{Value};
+ghost use Rattle.record.specs.Frame.{header-size, header, operand-size, longest-frame};
+ghost use Rattle.record.specs.Record.{opened as «opened-as»};
+ghost use Rattle.record.specs.Refusal.{send-refusal};
 ghost use Rattle.column.specs.Call.{after-take, Run, Frame-of};
-ghost use Rattle.column.specs.View.{settings-of, view};
-ghost use Rattle.bench.specs.Said.{Said, own-of};
+ghost use Rattle.record.specs.View.{settings-of, view};
+ghost use Rattle.bench_file.specs.Said.{Said, own-of};
 ghost use Rattle.bench.specs.Group.{bench-run, heard-in, round-calls};
-ghost use Rattle.bench.specs.Places.{Located, Places-of};
+ghost use Rattle.bench_file.specs.Places.{Located, Places-of};
 ghost use Rattle.bench.specs.Finished.{record-of};
 ghost use Rattle.bench.specs.Running.{Hears, frame-bytes, frame-at, Round-run, Group-ran};
-use crate::places;
-use crate::places::Places;
 use crate::printing;
-use column::record;
-use column::record::Column;
+use bench_file::places;
+use bench_file::places::Places;
+use code::sizes::MOST_COLUMNS;
+use record::Column;
+use record::HEADER;
+use record::LONGEST_FRAME;
+use record::frames;
+
+// The run number of every frame.
+const BENCH_RUN: u16 = 0;
 
 // The record of a column, opened with its own value.
 fn opened_at(file: &[u8], places: Places, number: u32) -> Column
-    requires { ⌜ Places-of (now file) places × (1 ≤ number) × (number ≤ 32) ⌝ }
+    requires { ⌜ Places-of (now file) places × (1 ≤ number) × (number ≤ most-columns) ⌝ }
     ensures { λ r. ⌜ ((f : Said) (v : Value) → Located (now (file .entry)) places f → own-of (f .owns) number ≡ some v → view r ≡ opened-as (f .settings) number bench-run v) ⌝ }
 {
     let at = places::own_at(places, number);
@@ -32,16 +39,23 @@ fn opened_at(file: &[u8], places: Places, number: u32) -> Column
         return record::empty();
     }
     let end = at + places.w as usize;
-    let opened = column::open(places.n, places.t, places.w, number, 0, &file[at..end]);
+    let opened = column::open(
+        places.n,
+        places.t,
+        places.w,
+        number,
+        BENCH_RUN,
+        &file[at..end],
+    );
     opened.column
 }
 
-fn opened(file: &[u8], places: Places) -> [Column; 32]
+fn opened(file: &[u8], places: Places) -> [Column; MOST_COLUMNS]
     requires { ⌜ Places-of (now file) places ⌝ }
     ensures { λ r. ⌜ ((f : Said) (k : ℕ) (v : Value) → Located (now (file .entry)) places f → own-of (f .owns) k ≡ some v → record-of r k ≡ opened-as (f .settings) k bench-run v) ⌝ }
 {
     let none = record::empty();
-    let mut columns = [none; 32];
+    let mut columns = [none; MOST_COLUMNS];
     let mut number = 1;
     while number <= places.n {
         let k = (number - 1) as usize;
@@ -53,24 +67,26 @@ fn opened(file: &[u8], places: Places) -> [Column; 32]
 
 // A frame, from the array's front on.
 pub struct Frame {
-    pub bytes: [u8; 164],
+    pub bytes: [u8; LONGEST_FRAME],
 }
 
 // The frame of a column's round.
 fn sent(column: Column) -> Frame
-    ensures { λ r. ⌜ (send-refusal (view column) 164 ≡ 0 → Frame-of (view column) (frame-bytes (settings-of column) (column .round) r)) ⌝ }
+    ensures { λ r. ⌜ (send-refusal (view column) longest-frame ≡ 0 → Frame-of (view column) (frame-bytes (settings-of (column .who)) (column .round) r)) ⌝ }
 {
-    let mut bytes = [0u8; 164];
+    let mut bytes = [0u8; LONGEST_FRAME];
     column::send(column, &mut bytes);
     Frame { bytes }
 }
 
-fn all_sent(n: u32, columns: [Column; 32]) -> [Frame; 32]
-    requires { ⌜ n ≤ 32 ⌝ }
-    ensures { λ r. ⌜ ((k : ℕ) → 1 ≤ k → k ≤ n → send-refusal (record-of columns k) 164 ≡ 0 → Frame-of (record-of columns k) (frame-bytes (record-of columns k .settings) (record-of columns k .round) (frame-at r k))) ⌝ }
+fn all_sent(n: u32, columns: [Column; MOST_COLUMNS]) -> [Frame; MOST_COLUMNS]
+    requires { ⌜ n ≤ most-columns ⌝ }
+    ensures { λ r. ⌜ ((k : ℕ) → 1 ≤ k → k ≤ n → send-refusal (record-of columns k) longest-frame ≡ 0 → Frame-of (record-of columns k) (frame-bytes (record-of columns k .who .settings) (record-of columns k .round) (frame-at r k))) ⌝ }
 {
-    let none = Frame { bytes: [0u8; 164] };
-    let mut frames = [none; 32];
+    let none = Frame {
+        bytes: [0u8; LONGEST_FRAME],
+    };
+    let mut frames = [none; MOST_COLUMNS];
     let mut number = 1;
     while number <= n {
         let k = (number - 1) as usize;
@@ -83,9 +99,9 @@ fn all_sent(n: u32, columns: [Column; 32]) -> [Frame; 32]
 
 // The bytes of a round's operand.
 fn operand_size(t: u32, w: u32, round: u32) -> usize
-    requires { ⌜ (t ≤ 10) × (w ≤ 8) ⌝ }
+    requires { ⌜ (t ≤ 10) × (w ≤ value-room) ⌝ }
     ensures { λ r. ⌜ ((n : ℕ) → r ≡ operand-size (settings n t w) round) ⌝ }
-    ensures small { λ r. ⌜ r ≤ 160 ⌝ }
+    ensures small { λ r. ⌜ r ≤ checks-room ⌝ }
 {
     if round == 1 {
         return w as usize;
@@ -95,19 +111,18 @@ fn operand_size(t: u32, w: u32, round: u32) -> usize
 
 // The frame of a bad column's message.
 fn framed(round: u32, from: u32, operand: &[u8]) -> Frame
-    requires { ⌜ (round ≤ 3) × (from ≤ 32) × (length (now operand) ≤ 160) ⌝ }
-    ensures { λ r. ⌜ take (4 + length (now (operand .entry))) (r .bytes) ≡ header round from bench-run ++ now (operand .entry) ⌝ }
+    requires { ⌜ (round ≤ 3) × (from ≤ most-columns) × (length (now operand) ≤ checks-room) ⌝ }
+    ensures { λ r. ⌜ take (header-size + length (now (operand .entry))) (r .bytes) ≡ header round from bench-run ++ now (operand .entry) ⌝ }
 {
-    let head = [(0x11 * round) as u8, from as u8, 0, 0];
-    let mut bytes = [0u8; 164];
-    printing::put_bytes(&mut bytes, 0, &head);
-    printing::put_bytes(&mut bytes, 4, operand);
+    let mut bytes = [0u8; LONGEST_FRAME];
+    frames::put_header(round, from, BENCH_RUN, &mut bytes);
+    printing::put_bytes(&mut bytes, HEADER, operand);
     Frame { bytes }
 }
 
 // The record after taking a frame that stands in front of an array.
 fn after_taking(column: Column, slot: u32, frame: Frame, size: usize) -> Column
-    requires { ⌜ size ≤ 164 ⌝ }
+    requires { ⌜ size ≤ longest-frame ⌝ }
     ensures { λ r. ⌜ view r ≡ after-take (view column) slot (take size (frame .bytes)) ⌝ }
 {
     let bytes = frame.bytes;
@@ -125,7 +140,7 @@ fn heard_at(
     to: u32,
     column: Column,
 ) -> Column
-    requires { ⌜ Places-of (now file) places × (1 ≤ round) × (round ≤ 3) × (1 ≤ slot) × (slot ≤ 32) × (1 ≤ to) × (to ≤ 32) ⌝ }
+    requires { ⌜ Places-of (now file) places × (1 ≤ round) × (round ≤ 3) × (1 ≤ slot) × (slot ≤ most-columns) × (1 ≤ to) × (to ≤ most-columns) ⌝ }
     ensures { λ r. ⌜ ((f : Said) (frames : ℕ → List ℕ) → Located (now (file .entry)) places f → frames slot ≡ frame-bytes (f .settings) round frame → Hears slot (heard-in f frames round to slot) (view column) (view r)) ⌝ }
 {
     if slot == to {
@@ -133,7 +148,7 @@ fn heard_at(
     }
     let size = operand_size(places.t, places.w, round);
     if places::is_good(places, slot) {
-        return after_taking(column, slot, frame, 4 + size);
+        return after_taking(column, slot, frame, HEADER + size);
     }
     let at = places::message_at(places, round, slot, to);
     if at == 0 {
@@ -141,7 +156,7 @@ fn heard_at(
     }
     let end = at + size;
     let message = framed(round, slot, &file[at..end]);
-    after_taking(column, slot, message, 4 + size)
+    after_taking(column, slot, message, HEADER + size)
 }
 
 // The record after a round in which these frames were sent.
@@ -149,11 +164,11 @@ fn after_round(
     file: &[u8],
     places: Places,
     round: u32,
-    frames: [Frame; 32],
+    frames: [Frame; MOST_COLUMNS],
     to: u32,
     column: Column,
 ) -> Column
-    requires { ⌜ Places-of (now file) places × (1 ≤ round) × (round ≤ 3) × (1 ≤ to) × (to ≤ 32) ⌝ }
+    requires { ⌜ Places-of (now file) places × (1 ≤ round) × (round ≤ 3) × (1 ≤ to) × (to ≤ most-columns) ⌝ }
     ensures { λ r. ⌜ ((f : Said) → Located (now (file .entry)) places f → Run (view column) (round-calls f (λ k. frame-bytes (f .settings) round (frame-at frames k)) round to) (view r)) ⌝ }
 {
     let mut next = column;
@@ -169,7 +184,12 @@ fn after_round(
 }
 
 // One round of all columns.
-fn one_round(file: &[u8], places: Places, round: u32, columns: [Column; 32]) -> [Column; 32]
+fn one_round(
+    file: &[u8],
+    places: Places,
+    round: u32,
+    columns: [Column; MOST_COLUMNS],
+) -> [Column; MOST_COLUMNS]
     requires { ⌜ Places-of (now file) places × (1 ≤ round) × (round ≤ 3) ⌝ }
     ensures { λ r. ⌜ ((f : Said) → Located (now (file .entry)) places f → Round-run f round columns r) ⌝ }
 {
@@ -186,7 +206,7 @@ fn one_round(file: &[u8], places: Places, round: u32, columns: [Column; 32]) -> 
 }
 
 // The columns after three rounds.
-pub fn run(file: &[u8], places: Places) -> [Column; 32]
+pub fn run(file: &[u8], places: Places) -> [Column; MOST_COLUMNS]
     requires { ⌜ Places-of (now file) places ⌝ }
     ensures { λ r. ⌜ ((f : Said) → Located (now (file .entry)) places f → Group-ran f r) ⌝ }
 {

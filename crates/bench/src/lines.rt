@@ -5,19 +5,22 @@ ghost use mathlib.Core.List.{List, [], _∷_};
 ghost use Prim.Native.Nat.{ℕ, _+_, _*_, _≤_, _<_};
 ghost use lib.ListN.{length};
 ghost use Rattle.code.specs.Settings.{settings};
-ghost use Rattle.counting.specs.Held.{held-as, held-in};
-ghost use Rattle.column.specs.View.{view};
-ghost use Rattle.bench.specs.Said.{Said, is-good};
+ghost use Rattle.code.specs.Size.{most-columns, value-room};
+ghost use Rattle.grading.specs.Held.{held-as, held-in};
+ghost use Rattle.record.specs.View.{view};
+ghost use Rattle.bench_file.specs.Said.{Said, is-good};
 ghost use Rattle.bench.specs.Listing.{joined, value-text, held-text, holdings-text, column-line, group-line, column-lines, listing, refused-line};
-ghost use Rattle.bench.specs.Entry.{listing-room};
+ghost use Rattle.bench.specs.Entry.{line-room, listing-room};
 ghost use Rattle.bench.specs.Printing.{Put};
-ghost use Rattle.bench.specs.Places.{Located};
+ghost use Rattle.bench_file.specs.Places.{Located};
 ghost use Rattle.bench.specs.Finished.{Finished, All-finished, record-of};
-use crate::places;
-use crate::places::Places;
 use crate::printing;
-use column::record::Column;
+use bench_file::places;
+use bench_file::places::Places;
+use code::sizes::MOST_COLUMNS;
+use code::sizes::VECTOR_ROOM;
 use counting::lent;
+use record::Column;
 
 // Bytes joined by a point.
 fn put_joined(output: &mut [u8], at: usize, bytes: &[u8]) -> usize
@@ -63,10 +66,10 @@ fn put_holdings(
     at: usize,
     n: usize,
     w: usize,
-    values: [u8; 256],
-    confidences: [u8; 32],
+    values: [u8; VECTOR_ROOM],
+    confidences: [u8; MOST_COLUMNS],
 ) -> usize
-    requires { ⌜ (n ≤ 32) × (w ≤ 8) × (at + length (holdings-text (held-in (settings n 0 w) values confidences)) ≤ length (now output)) ⌝ }
+    requires { ⌜ (n ≤ most-columns) × (w ≤ value-room) × (at + length (holdings-text (held-in (settings n 0 w) values confidences)) ≤ length (now output)) ⌝ }
     ensures { λ r. ⌜ Put at (holdings-text (held-in (settings n 0 w) values confidences)) (now (output .entry)) r (now (output .exit)) ⌝ }
 {
     let mut next = at;
@@ -87,10 +90,10 @@ fn put_line(
     number: u32,
     n: usize,
     w: usize,
-    values: [u8; 256],
-    confidences: [u8; 32],
+    values: [u8; VECTOR_ROOM],
+    confidences: [u8; MOST_COLUMNS],
 ) -> usize
-    requires { ⌜ (number < 1000) × (n ≤ 32) × (w ≤ 8) × (at + length (column-line number (held-in (settings n 0 w) values confidences)) ≤ length (now output)) ⌝ }
+    requires { ⌜ (number < 1000) × (n ≤ most-columns) × (w ≤ value-room) × (at + length (column-line number (held-in (settings n 0 w) values confidences)) ≤ length (now output)) ⌝ }
     ensures { λ r. ⌜ Put at (column-line number (held-in (settings n 0 w) values confidences)) (now (output .entry)) r (now (output .exit)) ⌝ }
 {
     let start = printing::put_decimal(output, at, number);
@@ -100,9 +103,9 @@ fn put_line(
 
 // The line of a column that has finished, where it is a good one.
 fn put_column(output: &mut [u8], at: usize, places: Places, number: u32, column: Column) -> usize
-    requires { ⌜ (1 ≤ number) × (number ≤ 32) × (places .n ≤ 32) × (places .w ≤ 8) × (at + 1155 ≤ length (now output)) ⌝ }
-    ensures { λ r. ⌜ ((file : List ℕ) (f : Said) → Located file places f → (is-good f number ≡ true → Finished (f .settings) column) → Put at (cond (is-good f number) (column-line number (view column .held)) []) (now (output .entry)) r (now (output .exit))) ⌝ }
-    ensures within { λ r. ⌜ r ≤ at + 1155 ⌝ }
+    requires { ⌜ (1 ≤ number) × (number ≤ most-columns) × (places .n ≤ most-columns) × (places .w ≤ value-room) × (at + line-room ≤ length (now output)) ⌝ }
+    ensures { λ r. ⌜ ((file : List ℕ) (f : Said) → Located file places f → (is-good f number ≡ true → Finished (f .settings) column) → Put at (cond (is-good f number) (column-line number (view column .found .held)) []) (now (output .entry)) r (now (output .exit))) ⌝ }
+    ensures within { λ r. ⌜ r ≤ at + line-room ⌝ }
 {
     if !places::is_good(places, number) {
         return at;
@@ -116,9 +119,14 @@ fn put_column(output: &mut [u8], at: usize, places: Places, number: u32, column:
 }
 
 // The lines of all good columns.
-fn put_columns(output: &mut [u8], at: usize, places: Places, columns: [Column; 32]) -> usize
-    requires { ⌜ (places .n ≤ 32) × (places .w ≤ 8) × (at + 32 * 1155 ≤ length (now output)) ⌝ }
-    ensures { λ r. ⌜ ((file : List ℕ) (f : Said) → Located file places f → All-finished f columns → Put at (column-lines f (λ k. record-of columns k .held) (places .n) 1) (now (output .entry)) r (now (output .exit))) ⌝ }
+fn put_columns(
+    output: &mut [u8],
+    at: usize,
+    places: Places,
+    columns: [Column; MOST_COLUMNS],
+) -> usize
+    requires { ⌜ (places .n ≤ most-columns) × (places .w ≤ value-room) × (at + most-columns * line-room ≤ length (now output)) ⌝ }
+    ensures { λ r. ⌜ ((file : List ℕ) (f : Said) → Located file places f → All-finished f columns → Put at (column-lines f (λ k. record-of columns k .found .held) (places .n) 1) (now (output .entry)) r (now (output .exit))) ⌝ }
 {
     let mut next = at;
     let mut number = 1;
@@ -145,9 +153,9 @@ fn put_group(output: &mut [u8], n: u32, t: u32, w: u32) -> usize
 }
 
 // The settings, and a line for each good column.
-pub fn put_listing(output: &mut [u8], places: Places, columns: [Column; 32]) -> usize
+pub fn put_listing(output: &mut [u8], places: Places, columns: [Column; MOST_COLUMNS]) -> usize
     requires { ⌜ ((file : List ℕ) × (f : Said) × Located file places f) × (listing-room ≤ length (now output)) ⌝ }
-    ensures { λ r. ⌜ ((file : List ℕ) (f : Said) → Located file places f → All-finished f columns → Put 0 (listing f (λ k. record-of columns k .held)) (now (output .entry)) r (now (output .exit))) ⌝ }
+    ensures { λ r. ⌜ ((file : List ℕ) (f : Said) → Located file places f → All-finished f columns → Put 0 (listing f (λ k. record-of columns k .found .held)) (now (output .entry)) r (now (output .exit))) ⌝ }
 {
     let first = put_group(output, places.n, places.t, places.w);
     put_columns(output, first, places, columns)

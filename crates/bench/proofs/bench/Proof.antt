@@ -3,7 +3,7 @@ use mathlib.Core.Path.{refl, _∙_}
 use native.Mathlib.Omega.{arith}
 use borrow.Author.Needs.{needs}
 use Rattle.bench.specs.Entry.{listing-room}
-use Rattle.bench.specs.Places.{Places-of}
+use Rattle.bench_file.specs.Places.{Places-of}
 use Rattle.bench.proofs.Text.{put-front}
 use Rattle.bench.proofs.Output.{answer-small, refused-printed, said-located, run-printed}
 use Rattle.bench.proofs.bench.Statement.{statement}

@@ -3,22 +3,23 @@ use mathlib.Core.Path.{_≡_, refl, sym, subst}
 use Prim.Native.Nat.{ℕ, _+_, _-_, _≤_}
 use native.Mathlib.Omega.{arith}
 use borrow.Author.Needs.{needs}
-use Rattle.column.specs.Record.{Rec}
+use Rattle.code.specs.Size.{most-columns}
+use Rattle.record.specs.Record.{Rec}
 use Rattle.column.specs.Call.{Run}
-use Rattle.column.specs.View.{view}
-use Rattle.bench.specs.Said.{Said}
+use Rattle.record.specs.View.{view}
+use Rattle.bench_file.specs.Said.{Said}
 use Rattle.bench.specs.Group.{heard-in, calls-from, round-calls}
-use Rattle.bench.specs.Places.{Located, Places-of}
+use Rattle.bench_file.specs.Places.{Located, Places-of}
 use Rattle.bench.specs.Running.{frame-bytes, frame-at}
-use Rattle.bench.proofs.Standing.{small}
-use Rattle.bench.proofs.Readings.{columns}
+use Rattle.bench_file.proofs.Standing.{small}
+use Rattle.bench_file.proofs.Readings.{columns}
 use Rattle.bench.proofs.Hearing.{hear-more, calls-next, close-last}
 use Rattle.bench.proofs.group.after_round.Statement.{statement}
 use Rattle.bench.proofs.group.after_round.Tie as tie
 
 abbrev Inv-loop : tie.InvT-loop
 Inv-loop file places round to frames next₀ slot₀ next slot =
-    (1 ≤ slot) × (slot ≤ places .n + 1) × (places .n ≤ 32)
+    (1 ≤ slot) × (slot ≤ places .n + 1) × (places .n ≤ most-columns)
     × ((f : Said) →
     Located file places f → (z : Rec) →
     Run (view next) (calls-from (heard-in f (λ k. frame-bytes (f .settings) round (frame-at frames k)) round to) (places .n + 1 - slot) slot) z →
@@ -82,7 +83,7 @@ returns c f h =
     let heard = heard-in f (λ k. frame-bytes (f .settings) (a .round) (frame-at (a .t4) k)) (a .round) (a .to) in
     let last = view (c .before .close .result .column) in
     subst (λ (many : ℕ). Run (view (a .column)) (calls-from heard many 1) last) (sym all)
-    (l .inv .3 f h last (close-last heard _ _ _ _ none (c .before .close .ensures .done)))
+    (l .inv .3 f h last (close-last heard _ _ _ _ none (c .before .close .ensures .reads)))
 
 pub after-round-spec : {M : Type 1} → statement M
 after-round-spec =

@@ -7,14 +7,14 @@ use borrow.Author.Needs.{needs}
 use lib.ListN.{length, take, drop, length-drop}
 use lib.Seq.{length-take-le}
 use Rattle.code.specs.Settings.{Settings, settings}
-use Rattle.column.specs.Frame.{operand-size, frame-size}
+use Rattle.record.specs.Frame.{header-size, operand-size, frame-size}
 use Rattle.column.specs.Call.{after-take}
-use Rattle.column.specs.View.{view}
-use Rattle.bench.specs.Said.{Said}
-use Rattle.bench.specs.Places.{Located, Places-of}
+use Rattle.record.specs.View.{view}
+use Rattle.bench_file.specs.Said.{Said}
+use Rattle.bench_file.specs.Places.{Located, Places-of}
 use Rattle.bench.specs.Running.{Hears, frame-bytes}
 use Rattle.bench.proofs.Hearing.{stands-inside, stands-none, stands-some, heard-own, heard-good, heard-missing, heard-message}
-use Rattle.bench.proofs.Standing.{small}
+use Rattle.bench_file.proofs.Standing.{small}
 use Rattle.bench.proofs.group.heard_at.Statement.{statement}
 use Rattle.bench.proofs.group.heard_at.Tie as tie
 
@@ -49,7 +49,7 @@ returns-2 c f frames h e =
     let a = c .before .before .before .before .before .before .args in
     let size = size-as (c .before .before .before) f h in
     rw (heard-good f frames _ _ _ (c .before .before .before .before .if1 .left) (sym (c .before .before .is-good .ensures _ f h) ∙ c .before .if2 .taken))
-    (c .after-taking .ensures ∙ ap (after-take (view (a .column)) (a .slot)) (ap (λ (k : ℕ). take (4 + k) (a .frame .bytes)) size ∙ sym e))
+    (c .after-taking .ensures ∙ ap (after-take (view (a .column)) (a .slot)) (ap (λ (k : ℕ). take (header-size + k) (a .frame .bytes)) size ∙ sym e))
 
 message-at-requires : tie.Need-message-at-requires
 message-at-requires c κs = search needs
@@ -98,7 +98,7 @@ returns-4 c f frames h e =
     let operand = take (at + k - at) (drop at (a .file .now)) in
     let same : take (operand-size (f .settings) (a .round)) (drop at (a .file .now)) ≡ operand = ap (λ (i : ℕ). take i (drop at (a .file .now))) (sym (less ∙ size)) in
     let long : length operand ≡ k = ap (λ (i : ℕ). length (take i (drop at (a .file .now)))) less ∙ length-take-le k (drop at (a .file .now)) (omega (arith, length-drop at (a .file .now), inside, size)) in
-    let frame = ap (λ (i : ℕ). take (4 + i) (c .before .framed .result .bytes)) (sym long) ∙ c .before .framed .ensures in
+    let frame = ap (λ (i : ℕ). take (header-size + i) (c .before .framed .result .bytes)) (sym long) ∙ c .before .framed .ensures in
     rw (heard-message f frames _ _ _ operand (c .before .before .before .before .before .before .before .before .if1 .left) (sym (c .before .before .before .before .before .before .is-good .ensures _ f h) ∙ c .before .before .before .before .before .if2 .left) (stands-some _ _ _ _ stands (c .before .before .before .if3 .left) ∙ ap some same))
     (c .after-taking2 .ensures ∙ ap (after-take (view (a .column)) (a .slot)) frame)
 

@@ -5,23 +5,24 @@ use native.Mathlib.Omega.{arith}
 use borrow.Author.Needs.{needs}
 use lib.ListN.{length, length-set}
 use Rattle.code.specs.Settings.{Settings}
+use Rattle.code.specs.Size.{most-columns}
 use Rattle.column.specs.Call.{Run, Frame-of}
-use Rattle.column.specs.View.{view}
-use Rattle.column.specs.declared.record.Column.{Column}
-use Rattle.bench.specs.Said.{Said}
+use Rattle.record.specs.View.{view}
+use Rattle.record.specs.declared.Column.{Column}
+use Rattle.bench_file.specs.Said.{Said}
 use Rattle.bench.specs.Group.{round-calls}
-use Rattle.bench.specs.Places.{Located, Places-of}
+use Rattle.bench_file.specs.Places.{Located, Places-of}
 use Rattle.bench.specs.Finished.{record-of, column-past}
 use Rattle.bench.specs.Running.{frame-bytes, frame-at}
-use Rattle.bench.proofs.Standing.{small}
-use Rattle.bench.proofs.Readings.{columns as columns-as}
+use Rattle.bench_file.proofs.Standing.{small}
+use Rattle.bench_file.proofs.Readings.{columns as columns-as}
 use Rattle.bench.proofs.Hearing.{set-cases}
 use Rattle.bench.proofs.group.one_round.Statement.{statement}
 use Rattle.bench.proofs.group.one_round.Tie as tie
 
 abbrev Inv-loop : tie.InvT-loop
 Inv-loop file places round columns frames next₀ number₀ next number =
-    (1 ≤ number) × (number ≤ places .n + 1) × (places .n ≤ 32) × (length next ≡ 32)
+    (1 ≤ number) × (number ≤ places .n + 1) × (places .n ≤ most-columns) × (length next ≡ most-columns)
     × ((f : Said) (k : ℕ) →
     Located file places f → 1 ≤ k → k < number →
     Run (record-of columns k) (round-calls f (λ j. frame-bytes (f .settings) round (frame-at frames j)) round k) (record-of next k))
@@ -37,7 +38,7 @@ loop-holds : tie.Need-loop-holds Inv-loop μ-loop
 unfolding Places-of
 loop-holds c =
     let s = c .before .before in
-    let long : length (s .args .t4) ≡ 32 = search needs in
+    let long : length (s .args .t4) ≡ most-columns = search needs in
     (omega arith, omega arith, small _ _ _ (s .pre .0 .1) .few-columns, long, λ f k h low less. absurd (omega arith))
 
 sub-k : tie.Need-sub-k Inv-loop μ-loop
@@ -99,7 +100,7 @@ returns c f h =
           λ k low high fine settings round.
           subst (λ (s : Settings). Frame-of (record-of (a .t4) k) (frame-bytes s (a .round) (frame-at (frames .result) k))) settings
           (subst
-          (λ (m : ℕ). Frame-of (record-of (a .t4) k) (frame-bytes (record-of (a .t4) k .settings) m (frame-at (frames .result) k)))
+          (λ (m : ℕ). Frame-of (record-of (a .t4) k) (frame-bytes (record-of (a .t4) k .who .settings) m (frame-at (frames .result) k)))
           round (frames .ensures k low (omega (arith, high, n)) fine));
       calls = λ k low high. l .inv .4 f k h low (omega (arith, high, n));
     }

@@ -5,24 +5,25 @@ use Prim.Native.Nat.{ℕ, _+_, _-_, _≤_, _<_}
 use native.Mathlib.Omega.{arith}
 use borrow.Author.Needs.{needs}
 use lib.ListN.{length, length-set}
-use Rattle.counting.specs.Value.{Value}
-use Rattle.column.specs.Record.{opened}
-use Rattle.column.specs.View.{view}
-use Rattle.column.specs.declared.record.Column.{Column}
-use Rattle.column.proofs.Refusal.{opens-of}
-use Rattle.bench.specs.Said.{Said, own-of}
+use Rattle.code.specs.Size.{most-columns}
+use Rattle.grading.specs.Value.{Value}
+use Rattle.record.specs.Record.{opened}
+use Rattle.record.specs.View.{view}
+use Rattle.record.specs.declared.Column.{Column}
+use Rattle.record.proofs.Refusal.{opens-of}
+use Rattle.bench_file.specs.Said.{Said, own-of}
 use Rattle.bench.specs.Group.{bench-run}
-use Rattle.bench.specs.Places.{Located, Places-of}
+use Rattle.bench_file.specs.Places.{Located, Places-of}
 use Rattle.bench.specs.Finished.{column-past, record-of}
-use Rattle.bench.proofs.Standing.{small}
-use Rattle.bench.proofs.Readings.{columns as columns-as}
+use Rattle.bench_file.proofs.Standing.{small}
+use Rattle.bench_file.proofs.Readings.{columns as columns-as}
 use Rattle.bench.proofs.Hearing.{set-cases}
 use Rattle.bench.proofs.group.opened.Statement.{statement}
 use Rattle.bench.proofs.group.opened.Tie as tie
 
 abbrev Inv-loop : tie.InvT-loop
 Inv-loop file places columns₀ number₀ columns number =
-    (1 ≤ number) × (number ≤ places .n + 1) × (places .n ≤ 32) × (length columns ≡ 32)
+    (1 ≤ number) × (number ≤ places .n + 1) × (places .n ≤ most-columns) × (length columns ≡ most-columns)
     × ((f : Said) (k : ℕ) (v : Value) →
     Located file places f → k < number → own-of (f .owns) k ≡ some v → record-of columns k ≡ opened (f .settings) k bench-run v)
 

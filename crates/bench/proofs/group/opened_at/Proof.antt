@@ -7,12 +7,15 @@ use native.Mathlib.Omega.{arith}
 use borrow.Author.Needs.{needs}
 use lib.ListN.{take, drop}
 use Rattle.code.specs.Settings.{Settings, settings}
-use Rattle.column.specs.Record.{opened}
-use Rattle.column.specs.Refusal.{open-refusal}
+use Rattle.record.specs.Record.{opened}
+use Rattle.record.specs.Refusal.{open-refusal}
+use Rattle.record.specs.View.{view}
+use Rattle.record.proofs.Refusal.{opens-of}
+use Rattle.record.proofs.View.{view-opened}
 use Rattle.bench.specs.Group.{bench-run}
-use Rattle.bench.specs.Places.{Places-of}
+use Rattle.bench_file.specs.Places.{Places-of}
 use Rattle.bench.proofs.Hearing.{stands-inside, stands-none, stands-some}
-use Rattle.bench.proofs.Standing.{none-some}
+use Rattle.bench_file.proofs.Standing.{none-some}
 use Rattle.bench.proofs.group.opened_at.Statement.{statement}
 use Rattle.bench.proofs.group.opened_at.Tie as tie
 
@@ -62,7 +65,8 @@ returns-2 c f v h e =
     let value : take (at + a .places .w - at) (drop at (a .file .now)) ≡ v = cc in
     let made = c .before .«open» .ensures in
     let fine = made .answered ∙ ap₂ (λ (x : Settings) (u : List ℕ). open-refusal x (a .number) u) (sym (h .settings)) value ∙ h .opens (a .number) v e in
-    made .done fine ∙ ap₂ (λ (x : Settings) (u : List ℕ). opened x (a .number) 0 u) (sym (h .settings)) value
+    ap view (made .done fine) ∙ view-opened _ _ _ _ _ _ (opens-of _ _ _ (sym (made .answered) ∙ fine))
+    ∙ ap₂ (λ (x : Settings) (u : List ℕ). opened x (a .number) 0 u) (sym (h .settings)) value
 
 pub opened-at-spec : {M : Type 1} → statement M
 opened-at-spec =

@@ -3,8 +3,8 @@ use native.Mathlib.Omega.{arith}
 use borrow.Author.Tests.{eq-eqb, ne-eqb}
 use borrow.Author.Needs.{needs}
 use Rattle.code.specs.Settings.{settings, check-count, value-size}
-use Rattle.column.specs.Frame.{operand-size}
-use Rattle.column.proofs.Size.{checks-fit}
+use Rattle.record.specs.Frame.{operand-size}
+use Rattle.record.proofs.Size.{checks-fit}
 use Rattle.bench.proofs.group.operand_size.Statement.{statement}
 use Rattle.bench.proofs.group.operand_size.Tie as tie
 

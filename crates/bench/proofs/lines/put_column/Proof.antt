@@ -4,9 +4,9 @@ use native.Mathlib.Omega.{arith}
 use borrow.Author.Tests.{not-true, not-false}
 use borrow.Author.Needs.{needs}
 use Rattle.code.specs.Settings.{settings, Settings}
-use Rattle.counting.specs.Held.{held-in}
+use Rattle.grading.specs.Held.{held-in}
 use Rattle.bench.specs.Listing.{column-line}
-use Rattle.bench.specs.Said.{is-good}
+use Rattle.bench_file.specs.Said.{is-good}
 use Rattle.bench.proofs.Text.{put-nothing, put-alike}
 use Rattle.bench.proofs.Wording.{line-short, held-alike}
 use Rattle.bench.proofs.lines.put_column.Statement.{statement}
@@ -48,7 +48,7 @@ returns-2 c =
           let good = sym (c .before .before .before .before .before .before .before .before .before .before .is-good .ensures file f h) ∙ not-false _ (c .before .before .before .before .before .before .before .before .before .if1 .left) in
           let done = finished good in
           let same = done .settings ∙ h .settings in
-          let held = ap (λ (x : Settings). held-in x (r .result .values) (r .result .confidences)) (sym same) ∙ r .ensures .done (r .ensures .answered ∙ done .answered) in
+          let held = ap (λ (x : Settings). held-in x (r .result .values) (r .result .confidences)) (sym same) ∙ r .ensures .done (r .ensures .answered ∙ done .answered) .reads in
           rw good (put-alike (ap (column-line (a .number)) (sym (held-alike (a .places .n) (a .places .t) (a .places .w) _ _) ∙ held)) (put .ensures))),
       omega (arith, put .ensures .behind, line-short (a .number) (a .places .n) (a .places .w) (r .result .values) (r .result .confidences) (omega (arith, s .pre)) (s .pre .2) (s .pre .3)),
     )

@@ -3,7 +3,7 @@ use mathlib.Core.List.{_∷_}
 use native.Mathlib.Omega.{arith}
 use borrow.Author.Needs.{needs}
 use lib.ListN.{length-append}
-use Rattle.counting.specs.Held.{held-as}
+use Rattle.grading.specs.Held.{held-as}
 use Rattle.bench.specs.Listing.{value-text, decimal, held-text}
 use Rattle.bench.proofs.Text.{puts}
 use Rattle.bench.proofs.lines.put_held.Statement.{statement}

@@ -6,8 +6,9 @@ use native.Mathlib.Omega.{arith}
 use borrow.Author.Needs.{needs}
 use lib.ListN.{length, getD, take, drop, length-append}
 use Rattle.code.specs.Settings.{settings}
-use Rattle.counting.specs.Value.{entries}
-use Rattle.counting.specs.Held.{held-as, held-in}
+use Rattle.code.specs.Size.{most-columns, vector-room}
+use Rattle.grading.specs.Value.{entries}
+use Rattle.grading.specs.Held.{held-as, held-in}
 use Rattle.bench.specs.Listing.{held-text, holdings-text}
 use Rattle.bench.proofs.Text.{Left, left-all, left-room, left-more, left-none}
 use Rattle.bench.proofs.Wording.{held-entry, holdings-all, holdings-next, holdings-none, value-in}
@@ -16,7 +17,7 @@ use Rattle.bench.proofs.lines.put_holdings.Tie as tie
 
 abbrev Inv-loop : tie.InvT-loop
 Inv-loop output₀ at n w values confidences next₀ j₀ output next j =
-    (j ≤ n) × (length output ≡ length output₀) × (length values ≡ 256) × (length confidences ≡ 32)
+    (j ≤ n) × (length output ≡ length output₀) × (length values ≡ vector-room) × (length confidences ≡ most-columns)
     × Left at (holdings-text (held-in (settings n 0 w) values confidences)) output₀ (holdings-text (entries (n - j) j (held-entry n w values confidences))) next output
 
 abbrev μ-loop : tie.MeasureT-loop
@@ -26,8 +27,8 @@ loop-holds : tie.Need-loop-holds Inv-loop μ-loop
 loop-holds c =
     let s = c .before in
     let a = s .args in
-    let long : length (a .t5) ≡ 256 = search needs in
-    let few : length (a .t6) ≡ 32 = search needs in
+    let long : length (a .t5) ≡ vector-room = search needs in
+    let few : length (a .t6) ≡ most-columns = search needs in
     (omega arith, refl, long, few, rw (holdings-all (a .n) (a .w) (a .t5) (a .t6)) (left-all _ _ _))
 
 mul-start : tie.Need-mul-start Inv-loop μ-loop

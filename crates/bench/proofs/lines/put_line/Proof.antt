@@ -6,7 +6,7 @@ use native.Mathlib.Omega.{arith}
 use borrow.Author.Needs.{needs}
 use lib.ListN.{length, length-append}
 use Rattle.code.specs.Settings.{settings}
-use Rattle.counting.specs.Held.{Held, held-in}
+use Rattle.grading.specs.Held.{Held, held-in}
 use Rattle.bench.specs.Listing.{decimal, holdings-text, column-line}
 use Rattle.bench.proofs.Text.{puts, put-alike}
 use Rattle.bench.proofs.lines.put_line.Statement.{statement}

@@ -4,13 +4,13 @@ use mathlib.Core.List.{List, _++_}
 use Prim.Native.Nat.{ℕ}
 use native.Mathlib.Omega.{arith}
 use borrow.Author.Needs.{needs}
-use Rattle.counting.specs.Held.{Held}
+use Rattle.grading.specs.Held.{Held}
 use Rattle.bench.specs.Entry.{listing-room}
 use Rattle.bench.specs.Listing.{group-line, column-lines, listing}
 use Rattle.bench.specs.Finished.{record-of}
 use Rattle.bench.proofs.Text.{puts, put-alike}
-use Rattle.bench.proofs.Standing.{small}
-use Rattle.bench.proofs.Readings.{columns}
+use Rattle.bench_file.proofs.Standing.{small}
+use Rattle.bench_file.proofs.Readings.{columns}
 use Rattle.bench.proofs.lines.put_listing.Statement.{statement}
 use Rattle.bench.proofs.lines.put_listing.Tie as tie
 
@@ -29,7 +29,7 @@ returns : tie.Need-returns
 unfolding listing
 returns c file f h finished =
     let a = c .before .before .before .before .before .before .before .before .before .args in
-    let held : ℕ → List Held = λ k. record-of (a .columns) k .held in
+    let held : ℕ → List Held = λ k. record-of (a .columns) k .found .held in
     let n = columns f (a .places) (h .settings) in
     put-alike (ap₂ _++_ (ap group-line (sym (h .settings))) (ap (λ (k : ℕ). column-lines f held k 1) (sym n)))
     (puts (omega arith) (c .before .before .before .before .before .before .put-group .ensures .0) (c .before .before .put-columns .ensures file f h finished))

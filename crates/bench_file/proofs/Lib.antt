@@ -1,0 +1,5 @@
+pub mod Standing
+pub mod Faults
+pub mod Readings
+pub mod Steps
+pub mod Sound

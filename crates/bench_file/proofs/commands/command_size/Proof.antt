@@ -1,0 +1,22 @@
+-- `command_size` meets its contract: head and body. Assumes nothing.
+use native.Mathlib.Omega.{arith}
+use borrow.Author.Needs.{needs}
+use Rattle.bench_file.specs.Command.{command-size}
+use Rattle.bench_file.proofs.commands.command_size.Statement.{statement}
+use Rattle.bench_file.proofs.commands.command_size.Tie as tie
+
+head-size-requires : tie.Need-head-size-requires
+head-size-requires c κs = search needs
+
+body-size-requires : tie.Need-body-size-requires
+body-size-requires c κs = search needs
+
+add-result : tie.Need-add-result
+add-result c = search needs
+
+returns : tie.Need-returns
+unfolding command-size
+returns c = ((λ n. simp (c .before .head-size .ensures .0, c .body-size .ensures .0 n)), omega arith)
+
+pub command-size-spec : {M : Type 1} → statement M
+command-size-spec = tie.close (tie.spec head-size-requires body-size-requires add-result returns)

@@ -1,0 +1,41 @@
+-- `with_own` meets its contract: one place more. Assumes nothing.
+use mathlib.Core.Path.{_≡_}
+use native.Mathlib.Omega.{arith}
+use lib.ListN.{length}
+use borrow.Author.Needs.{needs}
+use Rattle.code.specs.Size.{most-columns}
+use Rattle.bench_file.specs.Said.{with-own, own-of}
+use Rattle.bench_file.specs.Places.{Stands}
+use Rattle.bench_file.proofs.Standing.{own-more, own-opens}
+use Rattle.bench_file.proofs.places.with_own.Statement.{statement}
+use Rattle.bench_file.proofs.places.with_own.Tie as tie
+
+sub-k : tie.Need-sub-k
+sub-k c = search needs
+
+cast-k : tie.Need-cast-k
+cast-k c = search needs
+
+mul-more : tie.Need-mul-more
+mul-more c = search needs
+
+element-write-more : tie.Need-element-write-more
+element-write-more c = search needs
+
+returns : tie.Need-returns
+unfolding with-own Stands own-of
+returns c file f v h some fits e good =
+    let a = c .args in
+    let long : length (a .places .owns) ≡ most-columns = search needs in
+    record {
+      settings = h .settings;
+      fine = h .fine;
+      owns =
+          own-more file (a .places .w) (a .at) (a .column) v (f .owns) (a .places .owns) (omega arith) (c .pre .0) (some, fits, e) (h .owns);
+      messages = h .messages;
+      late = h .late;
+      opens = λ k u. own-opens (f .settings) (a .column) v (f .owns) good (h .opens) k u;
+    }
+
+pub with-own-spec : {M : Type 1} → statement M
+with-own-spec = tie.close (tie.spec sub-k cast-k mul-more element-write-more returns)
