@@ -20,44 +20,32 @@ static void must(uint32_t answer) {
     }
 }
 
-static void hand(struct sajowemi_column *column, uint32_t slot, const uint8_t *frame, size_t size) {
-    struct sajowemi_outcome outcome = sajowemi_take(*column, slot, frame, size);
-    must(outcome.answer); /* on the air: keep outcome.column, and go on */
-    *column = outcome.column;
-}
-
 static void run_round(struct sajowemi_column *columns, int round) {
     size_t size = 4 + (round == 0 ? 1 : 2 * BAD) * SIZE;
     uint8_t frames[GOOD][SAJOWEMI_LONGEST_FRAME];
     for (int k = 0; k < GOOD; k++)
-        must(sajowemi_send(columns[k], frames[k], sizeof frames[k]));
+        must(sajowemi_column_send(&columns[k], frames[k], sizeof frames[k]));
     for (int k = 0; k < GOOD; k++) {
         uint8_t lie[] = {commands[round], LIAR, 0, RUN, lies[round][k][0], lies[round][k][1]};
         for (int sender = 0; sender < GOOD; sender++)
             if (sender != k)
-                hand(&columns[k], sender + 1, frames[sender], size);
-        hand(&columns[k], LIAR, lie, size);
+                must(sajowemi_column_take(&columns[k], sender + 1, frames[sender], size)); /* on the air a refusal is counted: go on */
+        must(sajowemi_column_take(&columns[k], LIAR, lie, size));
     }
-    for (int k = 0; k < GOOD; k++) {
-        struct sajowemi_outcome outcome = sajowemi_close(columns[k]);
-        must(outcome.answer);
-        columns[k] = outcome.column;
-    }
+    for (int k = 0; k < GOOD; k++)
+        must(sajowemi_column_close(&columns[k]));
 }
 
 int main(void) {
     const uint8_t heights[GOOD][SIZE] = {{241}, {86}, {35}};
     struct sajowemi_column columns[GOOD];
-    for (int k = 0; k < GOOD; k++) {
-        struct sajowemi_outcome outcome = sajowemi_open(GOOD + BAD, BAD, SIZE, k + 1, RUN, heights[k], SIZE);
-        must(outcome.answer);
-        columns[k] = outcome.column;
-    }
+    for (int k = 0; k < GOOD; k++)
+        must(sajowemi_column_open(&columns[k], GOOD + BAD, BAD, SIZE, k + 1, RUN, heights[k], SIZE));
     for (int round = 0; round < 3; round++)
         run_round(columns, round);
     for (int k = 0; k < GOOD; k++) {
-        struct sajowemi_holdings held = sajowemi_result(columns[k]);
-        must(held.answer);
+        struct sajowemi_holdings held;
+        must(sajowemi_column_result(&columns[k], &held));
         printf("column %d believes:", k + 1);
         for (int of = 0; of < GOOD + BAD; of++)
             printf(" %d/%d", held.values[of], held.confidences[of]);

@@ -3,9 +3,13 @@
  * Link with libsajowemi.a, which `rt staticlib sajowemi` writes to target/staticlib, for x86-64 Linux. The calls keep no state, take no
  * memory of their own and may be called from any thread. Each answers every input: 0, or the number of the refusal.
  *
- * A record passes by value and comes back in the outcome. Its bits may be anything: each call checks it again. Of a refusal the record
- * comes back as it was, but for the count of refused frames under 9 to 15, and a lent buffer keeps its bytes. A length says how many
- * bytes may be read or written at the pointer before it; with length 0 the pointer is not followed.
+ * A record's bits may be anything: each call checks it again. The calls of the archive take it by value and hand it back in the outcome;
+ * the `sajowemi_column_` calls below them change it in place. Of a refusal the record comes back as it was, but for the count of refused
+ * frames under 9 to 15, and a lent buffer keeps its bytes. What opening, taking and closing leave is fixed to the byte: where nothing is
+ * held there are zeros.
+ *
+ * A length says how many bytes may be read or written at the pointer before it; with length 0 the pointer is not followed. Buffers that
+ * are lent to one call must not overlap each other, nor a record that the call changes in place: a vector is not repaired over itself.
  */
 #ifndef SAJOWEMI_H
 #define SAJOWEMI_H
@@ -45,28 +49,44 @@ enum sajowemi_answer {
 
 /* The longest frame, header included: the buffer that always suffices. */
 #define SAJOWEMI_LONGEST_FRAME 164
+/* The most columns, the most bytes of a value, and room for a value of every column. */
+#define SAJOWEMI_MOST_COLUMNS 32
+#define SAJOWEMI_VALUE_ROOM 8
+#define SAJOWEMI_VECTOR_ROOM 256
 
-/* One sender's slot in a round: whether its frame was taken, which any number but 0 says, and the frame. */
+/* Who a column is: n columns, t bad ones borne, w bytes of a value, its own number, 1 to n, the run, and its own value. */
+struct sajowemi_identity {
+    uint32_t n;
+    uint32_t t;
+    uint32_t w;
+    uint32_t number;
+    uint16_t run;
+    uint8_t own[SAJOWEMI_VALUE_ROOM];
+};
+
+/* What came in from one sender: whether its frame of the round was taken, which any number but 0 says, and the frame. */
 struct sajowemi_slot {
     uint8_t taken;
     uint8_t bytes[SAJOWEMI_LONGEST_FRAME];
 };
 
-/* A column's record: n columns, t bad ones borne, w bytes of a value. Round 4 is the end. Values stand one after the other, w bytes each. */
+/* What a column has found: V after round one, Y after two, values and confidences after three. Values stand one after the other, w
+ * bytes each, from their array's front on. */
+struct sajowemi_findings {
+    uint8_t heard[SAJOWEMI_VECTOR_ROOM];
+    uint8_t agreed[SAJOWEMI_VECTOR_ROOM];
+    uint8_t values[SAJOWEMI_VECTOR_ROOM];
+    uint8_t confidences[SAJOWEMI_MOST_COLUMNS];
+};
+
+/* A column's record: who it is, what came in by slot, what it has found, its round, of which 4 is the end, and the count of refused
+ * frames. */
 struct sajowemi_column {
-    uint32_t n;
-    uint32_t t;
-    uint32_t w;
-    uint32_t number;
+    struct sajowemi_identity who;
+    struct sajowemi_slot slots[SAJOWEMI_MOST_COLUMNS];
+    struct sajowemi_findings found;
     uint32_t round;
     uint32_t refused;
-    uint16_t run;
-    uint8_t own[8];
-    struct sajowemi_slot slots[32];
-    uint8_t heard[256];
-    uint8_t agreed[256];
-    uint8_t values[256];
-    uint8_t confidences[32];
 };
 
 struct sajowemi_outcome {
@@ -74,11 +94,12 @@ struct sajowemi_outcome {
     struct sajowemi_column column;
 };
 
-/* Column k's value has w bytes from values + (k - 1) * w on, and its confidence, 0 to 2, is confidences[k - 1]. */
+/* Column k's value has w bytes from values + (k - 1) * w on, and its confidence is confidences[k - 1]; behind those of n columns there are
+ * zeros. A record that these calls made holds confidences 0, 1 and 2, and zeros for a value at 0; of any other record, what stands there. */
 struct sajowemi_holdings {
     uint32_t answer;
-    uint8_t values[256];
-    uint8_t confidences[32];
+    uint8_t values[SAJOWEMI_VECTOR_ROOM];
+    uint8_t confidences[SAJOWEMI_MOST_COLUMNS];
 };
 
 /* The level of the group, and the level less the column's own height, in tenths of a millimetre. */
@@ -114,6 +135,42 @@ uint32_t sajowemi_check_values(uint32_t n, uint32_t t, uint32_t w, const uint8_t
 /* The vector repaired by the check values received, in front of the output; or SAJOWEMI_NONE. Refused 1 to 3 or 18. */
 uint32_t sajowemi_repair(uint32_t n, uint32_t t, uint32_t w, const uint8_t *vector, size_t vector_length, const uint8_t *checks,
                          size_t checks_length, uint8_t *output, size_t output_length);
+
+/* The calls of a column on its record in place. Each is the call above with its name, and answers as that does; the record behind the
+ * pointer becomes the outcome's, whatever the answer: a refused opening leaves zeros. */
+
+static inline uint32_t sajowemi_column_open(struct sajowemi_column *column, uint32_t n, uint32_t t, uint32_t w, uint32_t number,
+                                            uint16_t run, const uint8_t *own, size_t own_length) {
+    struct sajowemi_outcome outcome = sajowemi_open(n, t, w, number, run, own, own_length);
+    *column = outcome.column;
+    return outcome.answer;
+}
+
+static inline uint32_t sajowemi_column_take(struct sajowemi_column *column, uint32_t slot, const uint8_t *frame, size_t frame_length) {
+    struct sajowemi_outcome outcome = sajowemi_take(*column, slot, frame, frame_length);
+    *column = outcome.column;
+    return outcome.answer;
+}
+
+static inline uint32_t sajowemi_column_send(const struct sajowemi_column *column, uint8_t *buffer, size_t buffer_length) {
+    return sajowemi_send(*column, buffer, buffer_length);
+}
+
+static inline uint32_t sajowemi_column_close(struct sajowemi_column *column) {
+    struct sajowemi_outcome outcome = sajowemi_close(*column);
+    *column = outcome.column;
+    return outcome.answer;
+}
+
+static inline uint32_t sajowemi_column_result(const struct sajowemi_column *column, struct sajowemi_holdings *holdings) {
+    *holdings = sajowemi_result(*column);
+    return holdings->answer;
+}
+
+static inline uint32_t sajowemi_column_level(const struct sajowemi_column *column, struct sajowemi_level *level) {
+    *level = sajowemi_level(*column);
+    return level->answer;
+}
 
 /* What an answer says, in plain words. */
 static inline const char *sajowemi_says(uint32_t answer) {

@@ -1,7 +1,26 @@
 //! The archive's structs and calls as C has them (`include/sajowemi.h`).
 
+/// The longest frame, header included.
 pub const LONGEST_FRAME: usize = 164;
+pub const MOST_COLUMNS: usize = 32;
+/// The most bytes of a value.
+pub const VALUE_ROOM: usize = 8;
+/// Room for a value of every column.
+pub const VECTOR_ROOM: usize = MOST_COLUMNS * VALUE_ROOM;
 
+/// Who a column is: its settings, own number, run and own value, zeros behind it.
+#[derive(Clone, Copy)]
+#[repr(C)]
+pub struct Identity {
+    pub n: u32,
+    pub t: u32,
+    pub w: u32,
+    pub number: u32,
+    pub run: u16,
+    pub own: [u8; VALUE_ROOM],
+}
+
+/// What came in from one sender: whether its frame of the round was taken, which any number but 0 says, and the frame.
 #[derive(Clone, Copy)]
 #[repr(C)]
 pub struct Slot {
@@ -9,22 +28,25 @@ pub struct Slot {
     pub bytes: [u8; LONGEST_FRAME],
 }
 
+/// What a column has found: V after round one, Y after two, values and confidences after three.
+#[derive(Clone, Copy)]
+#[repr(C)]
+pub struct Findings {
+    pub heard: [u8; VECTOR_ROOM],
+    pub agreed: [u8; VECTOR_ROOM],
+    pub values: [u8; VECTOR_ROOM],
+    pub confidences: [u8; MOST_COLUMNS],
+}
+
+/// A column's record. Its bits may be anything: each call checks it again.
 #[derive(Clone, Copy)]
 #[repr(C)]
 pub struct Column {
-    pub n: u32,
-    pub t: u32,
-    pub w: u32,
-    pub number: u32,
+    pub who: Identity,
+    pub slots: [Slot; MOST_COLUMNS],
+    pub found: Findings,
     pub round: u32,
     pub refused: u32,
-    pub run: u16,
-    pub own: [u8; 8],
-    pub slots: [Slot; 32],
-    pub heard: [u8; 256],
-    pub agreed: [u8; 256],
-    pub values: [u8; 256],
-    pub confidences: [u8; 32],
 }
 
 #[derive(Clone, Copy)]
@@ -34,12 +56,13 @@ pub struct Outcome {
     pub column: Column,
 }
 
+/// The values and confidences of n columns, zeros behind them.
 #[derive(Clone, Copy)]
 #[repr(C)]
 pub struct Holdings {
     pub answer: u32,
-    pub values: [u8; 256],
-    pub confidences: [u8; 32],
+    pub values: [u8; VECTOR_ROOM],
+    pub confidences: [u8; MOST_COLUMNS],
 }
 
 #[derive(Clone, Copy)]
@@ -96,7 +119,8 @@ mod linked {
     }
 }
 
-// The calls require nothing of their arguments, and a slice's pointer and length are what they may read or write: so each is safe.
+// The calls require of their arguments only that no buffer overlaps one that is written, which Rust's borrows exclude, and a slice's
+// pointer and length are what they may read or write: so each is safe.
 
 pub fn open(n: u32, t: u32, w: u32, number: u32, run: u16, own: &[u8]) -> Outcome {
     unsafe { linked::sajowemi_open(n, t, w, number, run, own.as_ptr(), own.len()) }

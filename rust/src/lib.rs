@@ -1,5 +1,6 @@
 //! The proved radio link of mobile column lifts: a column's part in the exchange, and the code beneath it. Safe calls over the archive
-//! that `rt staticlib sajowemi` writes; nothing here needs the standard library or memory of its own.
+//! that `rt staticlib sajowemi` writes; nothing here needs the standard library or memory of its own. The archive's calls want buffers
+//! that do not overlap, which Rust's borrows see to: a vector is not repaired over itself.
 //!
 //! ```ignore
 //! let mut column = Column::open(Settings { n: 4, t: 1, w: 4 }, 2, run, &height)?;
@@ -58,7 +59,7 @@ impl Column {
 
     /// The column's number, 1 to n.
     pub fn number(&self) -> u32 {
-        self.record.number
+        self.record.who.number
     }
 
     /// The round, 1 to 3, or 4 at the end.
@@ -81,8 +82,8 @@ impl Column {
     /// Writes the round's frame in front of the buffer, and hands that part of it back.
     pub fn send<'a>(&self, buffer: &'a mut [u8]) -> Result<&'a [u8], Refusal> {
         Refusal::from_answer(archive::send(&self.record, buffer))?;
-        let archive::Column { t, w, round, .. } = self.record;
-        let values = if round == 1 { 1 } else { 2 * t };
+        let archive::Identity { t, w, .. } = self.record.who;
+        let values = if self.record.round == 1 { 1 } else { 2 * t };
         Ok(&buffer[..4 + (values * w) as usize])
     }
 
@@ -98,8 +99,8 @@ impl Column {
         let held = archive::result(&self.record);
         Refusal::from_answer(held.answer)?;
         Ok(Beliefs {
-            n: self.record.n as usize,
-            w: self.record.w as usize,
+            n: self.record.who.n as usize,
+            w: self.record.who.w as usize,
             held,
         })
     }
@@ -134,7 +135,8 @@ pub struct Beliefs {
 }
 
 impl Beliefs {
-    /// The value of column k and its confidence, 0 to 2; a value of zeros where it is 0. None where there is no column k.
+    /// The value of column k and its confidence; None where there is no column k. Of a record that the calls made, the confidence is 0, 1
+    /// or 2, and the value zeros where it is 0; of one made by hand, what stands there.
     pub fn of(&self, k: u32) -> Option<(&[u8], u8)> {
         let at = (k as usize).checked_sub(1).filter(|at| *at < self.n)?;
         Some((
