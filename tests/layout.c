@@ -8,24 +8,34 @@
 #define STANDS(type, field, at) _Static_assert(offsetof(struct type, field) == (at), #type "." #field)
 #define SIZE(type, size) _Static_assert(sizeof(struct type) == (size), #type)
 
+/* `own` ends at 26: the two bytes before the slots belong to nothing. */
+SIZE(sajowemi_identity, 28);
+_Static_assert(_Alignof(struct sajowemi_identity) == 4, "alignment");
+STANDS(sajowemi_identity, n, 0);
+STANDS(sajowemi_identity, t, 4);
+STANDS(sajowemi_identity, w, 8);
+STANDS(sajowemi_identity, number, 12);
+STANDS(sajowemi_identity, run, 16);
+STANDS(sajowemi_identity, own, 18);
 SIZE(sajowemi_slot, 165);
 STANDS(sajowemi_slot, taken, 0);
 STANDS(sajowemi_slot, bytes, 1);
+SIZE(sajowemi_findings, 800);
+STANDS(sajowemi_findings, heard, 0);
+STANDS(sajowemi_findings, agreed, 256);
+STANDS(sajowemi_findings, values, 512);
+STANDS(sajowemi_findings, confidences, 768);
 SIZE(sajowemi_column, 6116);
 _Static_assert(_Alignof(struct sajowemi_column) == 4, "alignment");
-STANDS(sajowemi_column, n, 0);
-STANDS(sajowemi_column, t, 4);
-STANDS(sajowemi_column, w, 8);
-STANDS(sajowemi_column, number, 12);
-STANDS(sajowemi_column, round, 16);
-STANDS(sajowemi_column, refused, 20);
-STANDS(sajowemi_column, run, 24);
-STANDS(sajowemi_column, own, 26);
-STANDS(sajowemi_column, slots, 34);
-STANDS(sajowemi_column, heard, 5314);
-STANDS(sajowemi_column, agreed, 5570);
-STANDS(sajowemi_column, values, 5826);
-STANDS(sajowemi_column, confidences, 6082);
+STANDS(sajowemi_column, who, 0);
+STANDS(sajowemi_column, slots, 28);
+STANDS(sajowemi_column, found, 5308);
+STANDS(sajowemi_column, found.heard, 5308);
+STANDS(sajowemi_column, found.agreed, 5564);
+STANDS(sajowemi_column, found.values, 5820);
+STANDS(sajowemi_column, found.confidences, 6076);
+STANDS(sajowemi_column, round, 6108);
+STANDS(sajowemi_column, refused, 6112);
 SIZE(sajowemi_outcome, 6120);
 STANDS(sajowemi_outcome, answer, 0);
 STANDS(sajowemi_outcome, column, 4);
@@ -48,24 +58,25 @@ static uint32_t number_at(const struct sajowemi_column *column, size_t at) {
 static void written(void) {
     const uint8_t own[] = {61, 62, 63};
     const uint8_t frame[] = {0x11, 4, 0x12, 0x34, 71, 72, 73};
+    const size_t at[] = {0, 4, 8, 12, 6108, 6112};
     const uint32_t expected[] = {7, 2, 3, 5, 1, 0};
     struct sajowemi_outcome outcome = sajowemi_open(7, 2, 3, 5, 0x1234, own, 3);
     const uint8_t *bytes = (const uint8_t *)&outcome.column;
-    const size_t slot = 34 + 3 * 165;
+    const size_t slot = 28 + 3 * 165;
 
     assert(outcome.answer == SAJOWEMI_DONE);
     for (size_t k = 0; k < 6; k++)
-        assert(number_at(&outcome.column, 4 * k) == expected[k]);
-    assert(bytes[24] == 0x34 && bytes[25] == 0x12);
-    assert(memcmp(bytes + 26, own, 3) == 0);
+        assert(number_at(&outcome.column, at[k]) == expected[k]);
+    assert(bytes[16] == 0x34 && bytes[17] == 0x12);
+    assert(memcmp(bytes + 18, own, 3) == 0);
     outcome = sajowemi_take(outcome.column, 4, frame, sizeof frame);
     assert(outcome.answer == SAJOWEMI_DONE);
-    assert(bytes[slot] != 0 && memcmp(bytes + slot + 5, frame + 4, 3) == 0);
+    assert(bytes[slot] == 1 && memcmp(bytes + slot + 1, frame, sizeof frame) == 0);
     outcome = sajowemi_take(outcome.column, 4, frame, sizeof frame);
-    assert(outcome.answer == SAJOWEMI_REPEATED && number_at(&outcome.column, 20) == 1);
+    assert(outcome.answer == SAJOWEMI_REPEATED && number_at(&outcome.column, 6112) == 1);
     outcome = sajowemi_close(outcome.column);
-    assert(outcome.answer == SAJOWEMI_DONE && number_at(&outcome.column, 16) == 2);
-    assert(memcmp(bytes + 5314 + 9, frame + 4, 3) == 0 && memcmp(bytes + 5314 + 12, own, 3) == 0);
+    assert(outcome.answer == SAJOWEMI_DONE && number_at(&outcome.column, 6108) == 2);
+    assert(memcmp(bytes + 5308 + 9, frame + 4, 3) == 0 && memcmp(bytes + 5308 + 12, own, 3) == 0);
 }
 
 /* Sending and asking read each field where the numbers above say. */
@@ -80,12 +91,12 @@ static void read(void) {
     assert(sajowemi_send(column, frame, sizeof frame) == SAJOWEMI_DONE);
     assert(memcmp(frame, expected, sizeof frame) == 0);
     column.round = 4;
-    for (size_t at = 5826; at < 6114; at++)
+    for (size_t at = 5820; at < 6108; at++)
         bytes[at] = (uint8_t)at;
     held = sajowemi_result(column);
     assert(held.answer == SAJOWEMI_DONE);
-    assert(memcmp(held.values, bytes + 5826, 21) == 0);
-    assert(memcmp(held.confidences, bytes + 6082, 7) == 0);
+    assert(memcmp(held.values, bytes + 5820, 21) == 0);
+    assert(memcmp(held.confidences, bytes + 6076, 7) == 0);
 }
 
 /* A column alone ends with its own value: Y is written in round two, values and confidences in round three. */
@@ -96,8 +107,8 @@ static void ended(void) {
 
     for (int round = 1; round <= 3; round++)
         column = sajowemi_close(column).column;
-    assert(memcmp(bytes + 5314, own, 2) == 0 && memcmp(bytes + 5570, own, 2) == 0);
-    assert(memcmp(bytes + 5826, own, 2) == 0 && bytes[6082] == 2);
+    assert(memcmp(bytes + 5308, own, 2) == 0 && memcmp(bytes + 5564, own, 2) == 0);
+    assert(memcmp(bytes + 5820, own, 2) == 0 && bytes[6076] == 2);
 }
 
 /* Two columns at -5 and -2 tenths: the level is -4, and column 1 goes up by one. */
@@ -108,8 +119,8 @@ static void levelled(void) {
 
     assert(level.answer == SAJOWEMI_NOT_FINISHED && level.level == 0 && level.correction == 0);
     column.round = 4;
-    memcpy(column.values, heights, sizeof heights);
-    memset(column.confidences, 1, 2);
+    memcpy(column.found.values, heights, sizeof heights);
+    memset(column.found.confidences, 1, 2);
     level = sajowemi_level(column);
     assert(level.answer == SAJOWEMI_DONE && level.level == -4 && level.correction == 1);
 }

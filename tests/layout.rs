@@ -5,27 +5,25 @@ mod archive;
 #[path = "shared/record.rs"]
 mod record;
 
-use archive::{Column, Holdings, Level, Outcome, Slot};
+use archive::{Column, Findings, Holdings, Identity, Level, Outcome, Slot};
 use core::mem::{align_of, offset_of, size_of};
-use record::bytes;
+use record::{bytes_at, bytes_at_mut};
 
+// `own` ends at 26: the two bytes before the slots belong to nothing.
 const _: () = {
+    assert!(size_of::<Identity>() == 28 && align_of::<Identity>() == 4);
+    assert!(offset_of!(Identity, n) == 0 && offset_of!(Identity, t) == 4);
+    assert!(offset_of!(Identity, w) == 8 && offset_of!(Identity, number) == 12);
+    assert!(offset_of!(Identity, run) == 16 && offset_of!(Identity, own) == 18);
     assert!(size_of::<Slot>() == 165 && align_of::<Slot>() == 1);
     assert!(offset_of!(Slot, taken) == 0 && offset_of!(Slot, bytes) == 1);
+    assert!(size_of::<Findings>() == 800 && align_of::<Findings>() == 1);
+    assert!(offset_of!(Findings, heard) == 0 && offset_of!(Findings, agreed) == 256);
+    assert!(offset_of!(Findings, values) == 512 && offset_of!(Findings, confidences) == 768);
     assert!(size_of::<Column>() == 6116 && align_of::<Column>() == 4);
-    assert!(offset_of!(Column, n) == 0 && offset_of!(Column, t) == 4 && offset_of!(Column, w) == 8);
-    assert!(
-        offset_of!(Column, number) == 12
-            && offset_of!(Column, round) == 16
-            && offset_of!(Column, refused) == 20
-    );
-    assert!(
-        offset_of!(Column, run) == 24
-            && offset_of!(Column, own) == 26
-            && offset_of!(Column, slots) == 34
-    );
-    assert!(offset_of!(Column, heard) == 5314 && offset_of!(Column, agreed) == 5570);
-    assert!(offset_of!(Column, values) == 5826 && offset_of!(Column, confidences) == 6082);
+    assert!(offset_of!(Column, who) == 0 && offset_of!(Column, slots) == 28);
+    assert!(offset_of!(Column, found) == 5308);
+    assert!(offset_of!(Column, round) == 6108 && offset_of!(Column, refused) == 6112);
     assert!(
         size_of::<Outcome>() == 6120
             && offset_of!(Outcome, answer) == 0
@@ -38,7 +36,7 @@ const _: () = {
 };
 
 fn number_at(column: &Column, at: usize) -> u32 {
-    u32::from_ne_bytes(bytes(column)[at..at + 4].try_into().unwrap())
+    u32::from_ne_bytes(bytes_at(column, at, at + 4).try_into().unwrap())
 }
 
 /// Opening, taking and refusing write each field where the numbers above say.
@@ -47,20 +45,23 @@ fn written() {
     let column = opened.column;
     assert_eq!(opened.answer, 0);
     assert_eq!(
-        [0, 4, 8, 12, 16, 20].map(|at| number_at(&column, at)),
+        [0, 4, 8, 12, 6108, 6112].map(|at| number_at(&column, at)),
         [7, 2, 3, 5, 1, 0]
     );
-    assert_eq!(bytes(&column)[24..26], 0x1234u16.to_ne_bytes());
-    assert_eq!(bytes(&column)[26..34], [61, 62, 63, 0, 0, 0, 0, 0]);
+    assert_eq!(bytes_at(&column, 16, 18), 0x1234u16.to_ne_bytes());
+    assert_eq!(bytes_at(&column, 18, 26), [61, 62, 63, 0, 0, 0, 0, 0]);
     let frame = [0x11, 4, 0x12, 0x34, 71, 72, 73];
     let taken = archive::take(&column, 4, &frame).column;
-    let slot = 34 + 3 * 165;
-    assert_ne!(bytes(&taken)[slot], 0);
-    assert_eq!(bytes(&taken)[slot + 5..slot + 8], [71, 72, 73]);
-    assert_eq!(number_at(&archive::take(&taken, 4, &frame).column, 20), 1);
+    let slot = 28 + 3 * 165;
+    assert_eq!(bytes_at(&taken, slot, slot + 1), [1]);
+    assert_eq!(bytes_at(&taken, slot + 1, slot + 8), frame);
+    assert_eq!(number_at(&archive::take(&taken, 4, &frame).column, 6112), 1);
     let heard = archive::close(&taken).column;
-    assert_eq!(number_at(&heard, 16), 2);
-    assert_eq!(bytes(&heard)[5314 + 9..5314 + 15], [71, 72, 73, 61, 62, 63]);
+    assert_eq!(number_at(&heard, 6108), 2);
+    assert_eq!(
+        bytes_at(&heard, 5308 + 9, 5308 + 15),
+        [71, 72, 73, 61, 62, 63]
+    );
 }
 
 /// Sending and asking read each field where the numbers above say.
@@ -70,14 +71,13 @@ fn read() {
     assert_eq!(archive::send(&column, &mut frame), 0);
     assert_eq!(frame, [0x11, 5, 0x12, 0x34, 61, 62, 63]);
     column.round = 4;
-    let fields = record::bytes_mut(&mut column);
-    for (k, byte) in fields[5826..6114].iter_mut().enumerate() {
+    for (k, byte) in bytes_at_mut(&mut column, 5820, 6108).iter_mut().enumerate() {
         *byte = k as u8 ^ 0x5a;
     }
     let held = archive::result(&column);
     assert_eq!(held.answer, 0);
-    assert_eq!(held.values[..21], bytes(&column)[5826..5847]);
-    assert_eq!(held.confidences[..7], bytes(&column)[6082..6089]);
+    assert_eq!(held.values[..21], *bytes_at(&column, 5820, 5841));
+    assert_eq!(held.confidences[..7], *bytes_at(&column, 6076, 6083));
 }
 
 /// A column alone ends with its own value: Y is written in round two, values and confidences in round three.
@@ -86,10 +86,10 @@ fn ended() {
     for _ in 0..3 {
         column = archive::close(&column).column;
     }
-    assert_eq!(bytes(&column)[5314..5316], [8, 7]);
-    assert_eq!(bytes(&column)[5570..5572], [8, 7]);
-    assert_eq!(bytes(&column)[5826..5828], [8, 7]);
-    assert_eq!(bytes(&column)[6082], 2);
+    for at in [5308, 5564, 5820] {
+        assert_eq!(bytes_at(&column, at, at + 2), [8, 7]);
+    }
+    assert_eq!(bytes_at(&column, 6076, 6077), [2]);
 }
 
 /// Two columns at -5 and -2 tenths: the level is -4, and column 1 goes up by one.
@@ -102,8 +102,8 @@ fn levelled() {
         (17, 0, 0)
     );
     column.round = 4;
-    column.values[..8].copy_from_slice(&heights);
-    column.confidences[..2].fill(1);
+    column.found.values[..8].copy_from_slice(&heights);
+    column.found.confidences[..2].fill(1);
     let level = archive::level(&column);
     assert_eq!((level.answer, level.level, level.correction), (0, -4, 1));
 }

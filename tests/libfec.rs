@@ -3,10 +3,10 @@
 
 #[path = "../rust/src/archive.rs"]
 mod archive;
-#[path = "shared/chance.rs"]
+#[path = "../models/chance.rs"]
 mod chance;
-#[path = "../benchmarks/repair/fec.rs"]
-mod fec;
+#[path = "../models/libfec.rs"]
+mod libfec;
 
 use chance::Chance;
 
@@ -51,7 +51,7 @@ fn spoil(input: &mut Input, plane: usize, wrong: usize, from: usize, chance: &mu
     }
 }
 
-fn input(coders: &fec::Coders, chance: &mut Chance) -> Input {
+fn input(coders: &libfec::Coders, chance: &mut Chance) -> Input {
     let n = 1 + chance.below(32) as usize;
     let t = chance.below((n as u64 - 1) / 3 + 1) as usize;
     let w = 1 + chance.below(8) as usize;
@@ -85,7 +85,7 @@ fn input(coders: &fec::Coders, chance: &mut Chance) -> Input {
 }
 
 fn main() {
-    let (coders, mut chance) = (fec::Coders::new(), Chance::new(3));
+    let (coders, mut chance) = (libfec::Coders::new(), Chance::new(3));
     let mut none = 0;
     for _ in 0..INPUTS {
         let input = input(&coders, &mut chance);

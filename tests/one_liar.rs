@@ -3,15 +3,15 @@
 
 #[path = "../rust/src/archive.rs"]
 mod archive;
-#[path = "shared/coder.rs"]
-mod coder;
-#[path = "shared/exchange.rs"]
+#[path = "../models/division.rs"]
+mod division;
+#[path = "../models/exchange.rs"]
 mod exchange;
-#[path = "shared/frames.rs"]
+#[path = "../models/frames.rs"]
 mod frames;
-#[path = "../benchmarks/repair/linear.rs"]
+#[path = "../models/linear.rs"]
 mod linear;
-#[path = "shared/refusals.rs"]
+#[path = "../models/refusals.rs"]
 mod refusals;
 
 use archive::Column;
@@ -40,7 +40,7 @@ fn repairs(vector: Vector) -> Vec<Option<Vector>> {
         );
         *place = Some(near);
     };
-    let own: [u8; 2] = coder::check_values(&vector, 1, 1).try_into().unwrap();
+    let own: [u8; 2] = division::check_values(&vector, 1, 1).try_into().unwrap();
     put(own, vector);
     for change in 1..=255 {
         put([own[0] ^ change, own[1]], vector);
@@ -48,7 +48,10 @@ fn repairs(vector: Vector) -> Vec<Option<Vector>> {
         for k in 0..4 {
             let mut near = vector;
             near[k] ^= change;
-            put(coder::check_values(&near, 1, 1).try_into().unwrap(), near);
+            put(
+                division::check_values(&near, 1, 1).try_into().unwrap(),
+                near,
+            );
         }
     }
     repaired
@@ -164,10 +167,10 @@ fn every_agreed(columns: &[Column; 3], reader: usize) -> (u64, Vec<Column>) {
     let compared = every_closing(
         columns,
         reader,
-        vector(&columns[reader].heard),
+        vector(&columns[reader].found.heard),
         |column, table| {
             assert_eq!(
-                vector(&column.agreed),
+                vector(&column.found.agreed),
                 agreed(table),
                 "Y of column {}",
                 reader + 1
@@ -183,7 +186,7 @@ fn every_held(columns: &[Column; 3], reader: usize) -> (u64, Vec<Beliefs>) {
     let compared = every_closing(
         columns,
         reader,
-        vector(&columns[reader].agreed),
+        vector(&columns[reader].found.agreed),
         |column, table| {
             let beliefs = held(table);
             let result = archive::result(column);

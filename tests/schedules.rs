@@ -4,17 +4,17 @@
 
 #[path = "../rust/src/archive.rs"]
 mod archive;
-#[path = "shared/chance.rs"]
+#[path = "../models/chance.rs"]
 mod chance;
-#[path = "shared/coder.rs"]
-mod coder;
-#[path = "shared/exchange.rs"]
+#[path = "../models/division.rs"]
+mod division;
+#[path = "../models/exchange.rs"]
 mod exchange;
-#[path = "shared/frames.rs"]
+#[path = "../models/frames.rs"]
 mod frames;
-#[path = "../benchmarks/repair/linear.rs"]
+#[path = "../models/linear.rs"]
 mod linear;
-#[path = "shared/refusals.rs"]
+#[path = "../models/refusals.rs"]
 mod refusals;
 
 use archive::Column;
@@ -339,10 +339,10 @@ impl Pair {
             );
         }
         if model.round > 1 {
-            assert_eq!(column.heard[..size], model.heard.concat(), "V");
+            assert_eq!(column.found.heard[..size], model.heard.concat(), "V");
         }
         if model.round > 2 {
-            assert_eq!(column.agreed[..size], model.agreed.concat(), "Y");
+            assert_eq!(column.found.agreed[..size], model.agreed.concat(), "Y");
         }
         if model.round > 3 {
             let held = archive::result(column);

@@ -60,7 +60,7 @@ fn level() {
     }
     assert_eq!(short.level(), Err(Refusal::LevelValueSize));
     let mut record = *alone.record();
-    record.confidences[0] = 0;
+    record.found.confidences[0] = 0;
     assert_eq!(
         Column::from_record(record).level(),
         Err(Refusal::LevelTooFewValues)

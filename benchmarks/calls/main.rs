@@ -3,9 +3,9 @@
 //! One run; each figure is the median of many calls on the same record, after one call that is not timed. Records and frames are
 //! prepared beforehand; a record passes by value, so that each call copies it.
 
-#[path = "../../tests/shared/chance.rs"]
+#[path = "../../models/chance.rs"]
 mod chance;
-#[path = "../../tests/shared/frames.rs"]
+#[path = "../../models/frames.rs"]
 mod frames;
 
 use chance::Chance;

@@ -14,6 +14,7 @@ static ucontext_t here, there;
 static struct sajowemi_column column;
 static struct sajowemi_outcome outcome;
 static struct sajowemi_holdings holdings;
+static struct sajowemi_level level;
 static uint8_t frame[SAJOWEMI_LONGEST_FRAME], vector[256], checks[160], output[256];
 
 static void open_call(void) { outcome = sajowemi_open(31, 10, 8, 1, 7, vector, 8); }
@@ -21,6 +22,7 @@ static void take_call(void) { outcome = sajowemi_take(column, 2, frame, 12); }
 static void send_call(void) { sajowemi_send(column, frame, sizeof frame); }
 static void close_call(void) { outcome = sajowemi_close(column); }
 static void result_call(void) { holdings = sajowemi_result(column); }
+static void level_call(void) { level = sajowemi_level(column); }
 static void check_values_call(void) { sajowemi_check_values(31, 10, 8, vector, 248, checks, 160); }
 static void repair_call(void) { sajowemi_repair(31, 10, 8, vector, 248, checks, 160, output, 256); }
 
@@ -57,6 +59,9 @@ int main(void) {
     line("close round two, repairs", close_call);
     column.round = 4;
     line("result", result_call);
+    column.who.w = 4;
+    memset(column.found.confidences, 1, sizeof column.found.confidences);
+    line("level, w = 4", level_call);
     line("check values", check_values_call);
     for (int c = 0; c < 80; c++) checks[c] ^= 0x55;
     line("repair, ten wrong", repair_call);

@@ -6,9 +6,16 @@
 
 #[path = "../../rust/src/archive.rs"]
 mod archive;
-mod fec;
+#[path = "../../models/chance.rs"]
+mod chance;
+#[path = "../../models/libfec.rs"]
+mod libfec;
+#[path = "../../models/linear.rs"]
 mod linear;
+#[path = "../../models/register.rs"]
 mod register;
+
+use chance::Chance;
 
 use std::hint::black_box;
 use std::time::Instant;
@@ -38,42 +45,39 @@ struct Input {
     checks: Vec<u8>,
 }
 
-/// xorshift: the same numbers in every run.
-struct Draw(u64);
+fn below(chance: &mut Chance, bound: usize) -> usize {
+    chance.below(bound as u64) as usize
+}
 
-impl Draw {
-    fn below(&mut self, k: usize) -> usize {
-        self.0 ^= self.0 << 13;
-        self.0 ^= self.0 >> 7;
-        self.0 ^= self.0 << 17;
-        (self.0 >> 32) as usize % k
+/// A random vector and its checks, with so many wrong places in every plane.
+fn input(
+    chance: &mut Chance,
+    coders: &libfec::Coders,
+    (n, t, w, wrong): (usize, usize, usize, usize),
+) -> Input {
+    let mut vector = vec![0; n * w];
+    chance.fill(&mut vector);
+    let mut checks = coders.checks(n, t, w, &vector);
+    for p in 0..w {
+        let mut places: Vec<usize> = (0..n + 2 * t).collect();
+        for i in 0..wrong.min(n + 2 * t) {
+            let j = i + below(chance, places.len() - i);
+            places.swap(i, j);
+            let place = places[i];
+            let byte = if place < n {
+                &mut vector[place * w + p]
+            } else {
+                &mut checks[(place - n) * w + p]
+            };
+            *byte ^= 1 + chance.below(255) as u8;
+        }
     }
-
-    /// A random vector and its checks, with so many wrong places in every plane.
-    fn input(&mut self, coders: &fec::Coders, n: usize, t: usize, w: usize, wrong: usize) -> Input {
-        let mut vector: Vec<u8> = (0..n * w).map(|_| self.below(256) as u8).collect();
-        let mut checks = coders.checks(n, t, w, &vector);
-        for p in 0..w {
-            let mut places: Vec<usize> = (0..n + 2 * t).collect();
-            for i in 0..wrong.min(n + 2 * t) {
-                let j = i + self.below(places.len() - i);
-                places.swap(i, j);
-                let place = places[i];
-                let byte = if place < n {
-                    &mut vector[place * w + p]
-                } else {
-                    &mut checks[(place - n) * w + p]
-                };
-                *byte ^= 1 + self.below(255) as u8;
-            }
-        }
-        Input {
-            n,
-            t,
-            w,
-            vector,
-            checks,
-        }
+    Input {
+        n,
+        t,
+        w,
+        vector,
+        checks,
     }
 }
 
@@ -166,7 +170,7 @@ fn print_table(
 }
 
 fn main() {
-    let coders = fec::Coders::new();
+    let coders = libfec::Coders::new();
     let repairs = [
         Program {
             name: "this library",
@@ -209,17 +213,17 @@ fn main() {
             },
         },
     ];
-    let mut draw = Draw(0x9e37_79b9_7f4a_7c15);
+    let mut chance = Chance::new(1);
 
     let mut repaired = 0;
     for turn in 0..RANDOM {
-        let n = 1 + draw.below(32);
-        let t = draw.below((n - 1) / 3 + 1);
-        let w = 1 + draw.below(8);
-        let wrong = draw.below(t + 4);
-        let mut input = draw.input(&coders, n, t, w, wrong);
+        let n = 1 + below(&mut chance, 32);
+        let t = below(&mut chance, (n - 1) / 3 + 1);
+        let w = 1 + below(&mut chance, 8);
+        let wrong = below(&mut chance, t + 4);
+        let mut input = input(&mut chance, &coders, (n, t, w, wrong));
         if turn % 16 == 0 {
-            input.checks.fill_with(|| draw.below(256) as u8);
+            chance.fill(&mut input.checks);
         }
         assert_alike(&encoders, &input);
         repaired += usize::from(assert_alike(&repairs, &input) == 0);
@@ -229,9 +233,9 @@ fn main() {
     );
     println!();
 
-    let mut inputs = |(n, t, w, wrong)| -> Vec<Input> {
+    let mut inputs = |settings| -> Vec<Input> {
         (0..INPUTS)
-            .map(|_| draw.input(&coders, n, t, w, wrong))
+            .map(|_| input(&mut chance, &coders, settings))
             .collect()
     };
     let cases = SETTINGS.map(&mut inputs);

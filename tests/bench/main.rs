@@ -1,18 +1,23 @@
 //! The bench program against a second implementation, over random files: valid, adversarial and damaged.
 //!
 //!     serve                       standard input to standard output, as the second implementation has it
+//!     longest                     a whole file of the greatest length to standard output, the same in every run
 //!     compare PROGRAM COUNT       runs the program on so many files and compares what it writes
 //!     round-trip TOOL COUNT       each file to text and back by the tool, in both forms of the text
 
-#[path = "../../tools/bench-text/checks.rs"]
-mod checks;
+#[path = "../../models/draw.rs"]
 mod draw;
+#[path = "../../models/bench/exchange.rs"]
 mod exchange;
 mod faults;
+#[path = "../../models/bench/group.rs"]
 mod group;
-#[path = "../../benchmarks/repair/linear.rs"]
+#[path = "../../models/linear.rs"]
 mod linear;
-mod model;
+#[path = "../../models/bench/listing.rs"]
+mod listing;
+#[path = "../../models/remainders.rs"]
+mod remainders;
 mod run;
 mod valid;
 
@@ -28,9 +33,12 @@ fn main() -> ExitCode {
     let words: Vec<&str> = arguments.iter().map(String::as_str).collect();
     let done = match words[..] {
         ["serve"] => serve(),
+        ["longest"] => longest(),
         ["compare", program, count] => number(count).and_then(|count| compare(program, count)),
         ["round-trip", tool, count] => number(count).and_then(|count| round_trip(tool, count)),
-        _ => Err("usage: serve | compare PROGRAM COUNT | round-trip TOOL COUNT".to_string()),
+        _ => Err(
+            "usage: serve | longest | compare PROGRAM COUNT | round-trip TOOL COUNT".to_string(),
+        ),
     };
     match done {
         Ok(()) => ExitCode::SUCCESS,
@@ -48,7 +56,14 @@ fn number(word: &str) -> Result<usize, String> {
 fn serve() -> Result<(), String> {
     let mut file = Vec::new();
     let read = std::io::stdin().read_to_end(&mut file);
-    let written = read.and_then(|_| std::io::stdout().write_all(model::listing(&file).as_bytes()));
+    let written =
+        read.and_then(|_| std::io::stdout().write_all(listing::listing(&file).as_bytes()));
+    written.map_err(|error| error.to_string())
+}
+
+fn longest() -> Result<(), String> {
+    let file = valid::commands_of_length(&mut Draw::new(SEED), group::LONGEST_FILE).concat();
+    let written = std::io::stdout().write_all(&file);
     written.map_err(|error| error.to_string())
 }
 
@@ -57,7 +72,7 @@ fn compare(program: &str, count: usize) -> Result<(), String> {
     let mut outcomes: BTreeMap<String, usize> = BTreeMap::new();
     for turn in 1..=count {
         let file = faults::file_of_turn(&mut draw, turn);
-        let wanted = model::listing(&file);
+        let wanted = listing::listing(&file);
         let written = run::output(program, &[], &file)?;
         if written != wanted.as_bytes() {
             let parts = [

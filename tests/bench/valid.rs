@@ -1,9 +1,9 @@
 //! Random bench files without a fault: groups of all settings, with bad columns that try to part the good ones.
 
-use crate::checks::{Coder, Value};
 use crate::draw::Draw;
 use crate::exchange::{OfGood, Vector, agreed, heard};
 use crate::group::{CHECKS, END, GROUP, Group, OWN, VALUE};
+use crate::remainders::{Coder, Value};
 use std::collections::BTreeMap;
 
 /// A file as its commands, so that a fault can be put into one of them.

@@ -1,25 +1,23 @@
 //! Each call beside the table of refusals: its answer, its record, the bytes lent to it.
 
-use crate::archive::{self, Column, Outcome};
+use crate::archive::{self, Column, Findings, Identity, Outcome, Slot};
 use crate::frames::{command_of, frame, frame_length};
-use crate::record::bytes;
+use crate::record::{EMPTY_SLOT, bytes_at, difference};
 use crate::refusals::{Call, Case, answer, count_after};
 use std::fmt::Debug;
 
 /// Ends the run where the library has something else than the model.
 pub fn same<T: PartialEq + Debug>(what: &str, ours: T, model: T, column: &Column) {
     if ours != model {
-        let Column {
+        let Identity {
             n,
             t,
             w,
             number,
-            round,
             run,
-            refused,
             own,
-            ..
-        } = column;
+        } = column.who;
+        let Column { round, refused, .. } = column;
         eprintln!("hostile_frames: {what}: the library has {ours:?}, the model {model:?}");
         eprintln!(
             "n {n}, t {t}, w {w}, number {number}, run {run}, round {round}, own {own:?}, refused {refused}"
@@ -29,39 +27,33 @@ pub fn same<T: PartialEq + Debug>(what: &str, ours: T, model: T, column: &Column
 }
 
 pub fn same_record(what: &str, ours: &Column, model: &Column) {
-    if bytes(ours) != bytes(model) {
-        let at = (0..)
-            .find(|&at| bytes(ours)[at] != bytes(model)[at])
-            .unwrap();
+    if let Some(at) = difference(ours, model) {
         same(
             &format!("{what}: byte {at} of the record"),
-            bytes(ours)[at],
-            bytes(model)[at],
+            bytes_at(ours, at, at + 1),
+            bytes_at(model, at, at + 1),
             model,
         );
     }
 }
 
 fn case_of<'a>(column: &'a Column, slot: u32, frame: &'a [u8], room: usize) -> Case<'a> {
-    let Column {
+    let Identity {
         n,
         t,
         w,
         number,
-        round,
         run,
         ref own,
-        ref slots,
-        ..
-    } = *column;
-    let taken = (1..=32).contains(&slot) && slots[slot as usize - 1].taken != 0;
+    } = column.who;
+    let taken = (1..=32).contains(&slot) && column.slots[slot as usize - 1].taken != 0;
     Case {
         n,
         t,
         w,
         number,
         own,
-        round,
+        round: column.round,
         run,
         slot,
         frame,
@@ -101,19 +93,20 @@ pub fn taken(column: &Column, slot: u32, lent: &[u8]) -> Outcome {
     outcome
 }
 
-/// A frame was taken: its slot holds the operand, and all else is as before.
+/// A frame was taken: its slot holds it in front of zeros, and all else is as before.
 fn same_but_slot(after: &Column, before: &Column, slot: u32, lent: &[u8]) {
     let k = slot as usize - 1;
     let mut rest = *after;
     rest.slots[k] = before.slots[k];
     same_record("a frame taken", &rest, before);
-    same("the slot's mark", after.slots[k].taken != 0, true, before);
-    same(
-        "the slot's operand",
-        &after.slots[k].bytes[4..lent.len()],
-        &lent[4..],
-        before,
-    );
+    let Slot { taken, bytes } = after.slots[k];
+    same("the slot's mark", taken, 1, before);
+    same("the slot's frame", &bytes[..lent.len()], lent, before);
+    zeros("behind the slot's frame", &bytes[lent.len()..], before);
+}
+
+fn zeros(what: &str, bytes: &[u8], column: &Column) {
+    same(what, bytes.iter().find(|byte| **byte != 0), None, column);
 }
 
 /// Sends into a buffer. Where no operand is given, any stands for right.
@@ -126,11 +119,14 @@ pub fn sent(column: &Column, room: usize, operand: Option<&[u8]>) {
     let mut expected = before;
     if model == 0 {
         let command = command_of(column.round);
-        let size = frame_length(command, column.t, column.w).unwrap();
+        let Identity {
+            t, w, number, run, ..
+        } = column.who;
+        let size = frame_length(command, t, w).unwrap();
         let written = frame(
             command,
-            column.number as u8,
-            column.run,
+            number as u8,
+            run,
             operand.unwrap_or(&buffer[4..size]),
         );
         expected[..size].copy_from_slice(&written);
@@ -138,7 +134,7 @@ pub fn sent(column: &Column, room: usize, operand: Option<&[u8]>) {
     same("the buffer", buffer, expected, column);
 }
 
-/// Closes: settings, number, run, own value and count stay, and no slot is taken.
+/// Closes: every slot is empty then, the round's arrays may have other bytes in front of zeros, and all else but the round is as before.
 pub fn closed(column: &Column) {
     let outcome = archive::close(column);
     let model = model(Call::Close, column, 0, &[], 0);
@@ -146,65 +142,53 @@ pub fn closed(column: &Column) {
     if model != 0 {
         return same_record("a refused closing", &outcome.column, column);
     }
-    let after = outcome.column;
-    let Column {
-        n,
-        t,
-        w,
-        number,
-        run,
-        own,
-        refused,
-        ..
-    } = *column;
-    let round = column.round + 1;
-    same_record(
-        "closing",
-        &after,
-        &Column {
-            n,
-            t,
-            w,
-            number,
-            run,
-            own,
-            refused,
-            round,
-            ..after
+    let now = outcome.column.found;
+    let Identity { n, w, .. } = column.who;
+    let (size, count) = ((n * w) as usize, n as usize);
+    let found = match column.round {
+        1 => Findings {
+            heard: now.heard,
+            ..column.found
         },
-    );
-    same(
-        "slots after closing",
-        after.slots.iter().any(|slot| slot.taken != 0),
-        false,
-        column,
-    );
+        2 => Findings {
+            agreed: now.agreed,
+            ..column.found
+        },
+        _ => Findings {
+            values: now.values,
+            confidences: now.confidences,
+            ..column.found
+        },
+    };
+    let expected = Column {
+        slots: [EMPTY_SLOT; 32],
+        found,
+        round: column.round + 1,
+        ..*column
+    };
+    same_record("closing", &outcome.column, &expected);
+    match column.round {
+        1 => zeros("behind V", &now.heard[size..], column),
+        2 => zeros("behind Y", &now.agreed[size..], column),
+        _ => {
+            zeros("behind the values", &now.values[size..], column);
+            zeros("behind the confidences", &now.confidences[count..], column);
+        }
+    }
 }
 
-/// Asks for the result: the record's values and confidences, or zeros with a refusal.
+/// Asks for the result: the record's values and confidences in front of zeros, or zeros with a refusal.
 pub fn asked(column: &Column) {
     let held = archive::result(column);
     let model = model(Call::Result, column, 0, &[], 0);
     same("the result", held.answer, model, column);
-    if model != 0 {
-        return same(
-            "a refused result",
-            (held.values, held.confidences),
-            ([0; 256], [0; 32]),
-            column,
-        );
+    let (mut values, mut confidences) = ([0; 256], [0; 32]);
+    if model == 0 {
+        let Identity { n, w, .. } = column.who;
+        let (size, count) = ((n * w) as usize, n as usize);
+        values[..size].copy_from_slice(&column.found.values[..size]);
+        confidences[..count].copy_from_slice(&column.found.confidences[..count]);
     }
-    let (size, count) = ((column.n * column.w) as usize, column.n as usize);
-    same(
-        "values",
-        &held.values[..size],
-        &column.values[..size],
-        column,
-    );
-    same(
-        "confidences",
-        &held.confidences[..count],
-        &column.confidences[..count],
-        column,
-    );
+    same("values", held.values, values, column);
+    same("confidences", held.confidences, confidences, column);
 }

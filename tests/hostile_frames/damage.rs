@@ -5,7 +5,7 @@ use crate::archive::Column;
 use crate::chance::Chance;
 use crate::compare::{asked, closed, sent, taken};
 use crate::frames::{command_of, frame_length};
-use crate::record::{EMPTY, bytes_mut};
+use crate::record::{EMPTY, fill};
 use crate::settings::{BAD, NUMBERS, SIZES};
 
 pub fn damaged_records(count: u64) -> u64 {
@@ -32,23 +32,25 @@ pub fn damaged_records(count: u64) -> u64 {
 /// A record of random bits: all of it, or all but settings that pass, or all but these with one of them spoiled.
 fn damaged(chance: &mut Chance) -> Column {
     let mut column = EMPTY;
-    chance.fill(bytes_mut(&mut column));
+    fill(&mut column, |bytes| chance.fill(bytes));
     if !chance.one_in(8) {
-        (column.n, column.t, column.w) = chance.pick(&GROUPS);
-        column.number = 1 + chance.below(column.n.into()) as u32;
+        let who = &mut column.who;
+        (who.n, who.t, who.w) = chance.pick(&GROUPS);
+        who.number = 1 + chance.below(who.n.into()) as u32;
         column.round = 1 + chance.below(4) as u32;
     }
     for slot in &mut column.slots {
         slot.taken *= chance.below(2) as u8;
     }
     let bits = chance.word() as u32;
+    let who = &mut column.who;
     match chance.below(12) {
-        0 => column.n = bits,
-        1 => column.t = chance.pick(&BAD),
-        2 => column.w = chance.pick(&SIZES),
-        3 => column.number = chance.pick(&NUMBERS),
+        0 => who.n = bits,
+        1 => who.t = chance.pick(&BAD),
+        2 => who.w = chance.pick(&SIZES),
+        3 => who.number = chance.pick(&NUMBERS),
         4 => column.round = bits,
-        5 => column.own = [0; 8],
+        5 => who.own = [0; 8],
         6 => column.refused = u32::MAX,
         _ => {}
     }
@@ -66,9 +68,9 @@ fn likely_frame(chance: &mut Chance, column: &Column, slot: u32) -> Vec<u8> {
         lent[1] = slot as u8;
     }
     if !chance.one_in(8) {
-        lent[2..4].copy_from_slice(&column.run.to_be_bytes());
+        lent[2..4].copy_from_slice(&column.who.run.to_be_bytes());
     }
-    let right = frame_length(lent[0], column.t.min(10), column.w.min(8)).unwrap_or(0);
+    let right = frame_length(lent[0], column.who.t.min(10), column.who.w.min(8)).unwrap_or(0);
     lent.truncate(if chance.one_in(4) {
         chance.below(201) as usize
     } else {

@@ -3,17 +3,17 @@
 
 #[path = "../../rust/src/archive.rs"]
 mod archive;
-#[path = "../shared/chance.rs"]
+#[path = "../../models/chance.rs"]
 mod chance;
-#[path = "../shared/coder.rs"]
-mod coder;
 mod compare;
 mod damage;
-#[path = "../shared/frames.rs"]
+#[path = "../../models/division.rs"]
+mod division;
+#[path = "../../models/frames.rs"]
 mod frames;
 #[path = "../shared/record.rs"]
 mod record;
-#[path = "../shared/refusals.rs"]
+#[path = "../../models/refusals.rs"]
 mod refusals;
 mod sending;
 mod settings;

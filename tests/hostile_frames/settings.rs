@@ -1,7 +1,7 @@
 //! Settings in and out of range: openings, and records that have them.
 
 use crate::RUN;
-use crate::archive::{self, Column};
+use crate::archive::{self, Column, Identity};
 use crate::compare::{asked, closed, model, same, same_record, sent, taken};
 use crate::record::EMPTY;
 use crate::refusals::{Call, Case, answer};
@@ -55,27 +55,23 @@ fn opened(n: u32, t: u32, w: u32, number: u32, own: &[u8]) {
         room,
     };
     let model = answer(Call::Open, &case);
-    let mut expected = EMPTY;
-    if model == 0 {
-        expected = Column {
+    let asked = Column {
+        who: Identity {
             n,
             t,
             w,
             number,
-            round: 1,
             run,
-            ..EMPTY
-        };
-        expected.own[..own.len()].copy_from_slice(own);
-    }
-    let outcome = archive::open(n, t, w, number, run, own);
-    let asked = Column {
-        n,
-        t,
-        w,
-        number,
+            own: [0; 8],
+        },
         ..EMPTY
     };
+    let mut expected = EMPTY;
+    if model == 0 {
+        expected = Column { round: 1, ..asked };
+        expected.who.own[..own.len()].copy_from_slice(own);
+    }
+    let outcome = archive::open(n, t, w, number, run, own);
     same("opening", outcome.answer, model, &asked);
     same_record("opening", &outcome.column, &expected);
 }
@@ -86,13 +82,15 @@ fn records(n: u32, t: u32, w: u32, number: u32) -> u64 {
     for own in [[0; 8], [0, 0, 0, 0, 0, 0, 0, 1], [1; 8]] {
         for round in [0, 1, 2, 3, 4, 5, u32::MAX] {
             let column = Column {
-                n,
-                t,
-                w,
-                number,
+                who: Identity {
+                    n,
+                    t,
+                    w,
+                    number,
+                    run: RUN,
+                    own,
+                },
                 round,
-                run: RUN,
-                own,
                 ..EMPTY
             };
             for room in [0, 3, 4, 5, 164, 200] {

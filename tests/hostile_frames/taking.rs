@@ -1,7 +1,7 @@
 //! Frames of every kind at every point of an exchange.
 
 use crate::RUN;
-use crate::archive::{self, Column};
+use crate::archive::{self, Column, Identity};
 use crate::chance::Chance;
 use crate::compare::{same, taken};
 use crate::frames::{command_of, frame, frame_length};
@@ -126,20 +126,19 @@ pub fn count_at_top() -> u64 {
         (u32::MAX, u32::MAX),
     ];
     for (refused, after) in counts {
-        let own = [1; 8];
-        let settings = Column {
+        let who = Identity {
             n: 4,
             t: 1,
             w: 1,
             number: 2,
-            ..EMPTY
+            run: RUN,
+            own: [1; 8],
         };
         let mut column = Column {
+            who,
             round: 2,
             refused,
-            run: RUN,
-            own,
-            ..settings
+            ..EMPTY
         };
         column.slots[2].taken = 255;
         for (number, (slot, lent)) in (9..).zip(frames) {

@@ -27,7 +27,7 @@ rust_crate() { # target/tests/libsajowemi.rlib, the safe crate
     rust rust/src/lib.rs target/tests/libsajowemi.rlib --crate-name sajowemi --crate-type rlib -l static=sajowemi
 }
 
-rust_program() { # SOURCE OUTPUT OPTION..: one that calls the archive by itself, and leaves parts of tests/shared unused
+rust_program() { # SOURCE OUTPUT OPTION..: one that calls the archive by itself, and leaves parts of models unused
     rust "$@" -A dead_code -l static=sajowemi
 }
 

@@ -1,7 +1,7 @@
 //! From text to a bench file: a line, a command.
 
-use crate::checks::{Coder, Value};
 use crate::commands::{CHECKS, END, GROUP, OWN, Settings, VALUE};
+use crate::remainders::{Coder, Value};
 use crate::values::{byte, value};
 
 /// The file; or none and what is wrong, line by line.

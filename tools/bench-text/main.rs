@@ -6,10 +6,11 @@
 //! Every file has a text, and its text gives back the same bytes. A text that cannot be read is complained of line by line,
 //! and nothing is written; where a file is no sequence of commands, a complaint names the byte, and the text is whole all the same.
 
-mod checks;
 mod commands;
 mod from_file;
 mod from_text;
+#[path = "../../models/remainders.rs"]
+mod remainders;
 mod values;
 
 use std::io::{Read, Write, stdin, stdout};

@@ -1,6 +1,6 @@
 //! Values as words: bytes joined by points, hexadecimal bytes, a height with its sign, or blank.
 
-use crate::checks::Value;
+use crate::remainders::Value;
 
 pub const BYTES_OF_A_HEIGHT: usize = 4;
 

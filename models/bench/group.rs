@@ -1,6 +1,6 @@
 //! A bench file read into the group that it describes, or the number that it is refused with.
 
-use crate::checks::Value;
+use crate::remainders::Value;
 use std::collections::BTreeMap;
 
 pub const LONGEST_FILE: usize = 65_536;

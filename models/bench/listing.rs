@@ -1,8 +1,8 @@
 //! The bench program a second time, from its description alone: the bytes of a bench file to the bytes of the listing.
 
-use crate::checks::{Coder, Value};
 use crate::exchange::{agreed, heard, held, is_blank};
 use crate::group::{Group, read};
+use crate::remainders::{Coder, Value};
 
 pub fn listing(file: &[u8]) -> String {
     match read(file) {

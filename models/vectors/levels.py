@@ -1,7 +1,7 @@
 #!/usr/bin/env python3
 """Makes the stored cases of the program level_cases, and the line that it must write. Each run makes the same bytes:
 
-    python3 vectors/levels.py
+    python3 models/vectors/levels.py
 
 A case: n, t, w, the own number, the round and the answer (4 bytes each, high byte first); the level and the correction, each
 as a byte that is 1 for a negative number and a magnitude of 4 bytes; the own value (8 bytes); 32 values of 4 bytes; 32
@@ -130,7 +130,7 @@ def cases():
 
 
 def main():
-    program = Path(__file__).resolve().parent.parent / "crates" / "level_cases"
+    program = Path(__file__).resolve().parents[2] / "crates" / "level_cases"
     stored = list(cases())
     (program / "stdin").write_bytes(b"".join(map(packed, stored)))
     (program / "stdout").write_text(f"level: {len(stored)} vectors agree\n")

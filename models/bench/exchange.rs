@@ -1,8 +1,8 @@
 //! The exchange of a whole group: what each good column holds after each round.
 
-use crate::checks::{Coder, Value};
 use crate::group::Group;
 use crate::linear;
+use crate::remainders::{Coder, Value};
 use std::collections::BTreeMap;
 
 pub type Vector = Vec<Value>;

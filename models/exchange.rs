@@ -1,6 +1,6 @@
 //! One column's exchange, written apart from the library: tables of values as lists, counts in a map, and repair by linear equations.
 
-use crate::coder::check_values;
+use crate::division::check_values;
 use crate::frames::{command_of, frame};
 use crate::linear;
 use crate::refusals::{Call, Case, answer, count_after};

@@ -11,9 +11,9 @@ room=$(mktemp -d)
 trap 'rm -rf "$room"' EXIT
 cc -std=c11 -O2 -Wall -Wextra -Werror -o "$room/make" make.c -lfec
 make_file() { # KIND CRATE CALL
-    "$room/make" "$1" >"../crates/$2/stdin" 2>"$room/said"
+    "$room/make" "$1" >"../../crates/$2/stdin" 2>"$room/said"
     records=$(sed 's/:.*//' "$room/said")
-    echo "$3: $records vectors agree" >"../crates/$2/stdout"
+    echo "$3: $records vectors agree" >"../../crates/$2/stdout"
     echo "crates/$2/stdin: $(cat "$room/said")"
 }
 make_file checks check_vectors 'check values'
