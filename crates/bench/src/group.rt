@@ -5,9 +5,9 @@ ghost use mathlib.Core.Option.{some};
 ghost use Prim.Native.Nat.{ℕ, _+_, _≤_, _<_};
 ghost use lib.ListN.{length, take};
 ghost use Rattle.code.specs.Settings.{settings};
-ghost use Rattle.code.specs.Size.{most-columns, value-room, checks-room};
+ghost use Rattle.code.specs.Size.{most-columns, checks-room};
 ghost use Rattle.grading.specs.Value.{Value};
-ghost use Rattle.record.specs.Frame.{header-size, header, operand-size, longest-frame};
+ghost use Rattle.record.specs.Frame.{header-size, header, longest-frame};
 ghost use Rattle.record.specs.Record.{opened as «opened-as»};
 ghost use Rattle.record.specs.Refusal.{send-refusal};
 ghost use Rattle.column.specs.Call.{after-take, Run, Frame-of};
@@ -97,18 +97,6 @@ fn all_sent(n: u32, columns: [Column; MOST_COLUMNS]) -> [Frame; MOST_COLUMNS]
     frames
 }
 
-// The bytes of a round's operand.
-fn operand_size(t: u32, w: u32, round: u32) -> usize
-    requires { ⌜ (t ≤ 10) × (w ≤ value-room) ⌝ }
-    ensures { λ r. ⌜ ((n : ℕ) → r ≡ operand-size (settings n t w) round) ⌝ }
-    ensures small { λ r. ⌜ r ≤ checks-room ⌝ }
-{
-    if round == 1 {
-        return w as usize;
-    }
-    (2 * t * w) as usize
-}
-
 // The frame of a bad column's message.
 fn framed(round: u32, from: u32, operand: &[u8]) -> Frame
     requires { ⌜ (round ≤ 3) × (from ≤ most-columns) × (length (now operand) ≤ checks-room) ⌝ }
@@ -146,7 +134,7 @@ fn heard_at(
     if slot == to {
         return column;
     }
-    let size = operand_size(places.t, places.w, round);
+    let size = frames::operand_size(places.t, places.w, round);
     if places::is_good(places, slot) {
         return after_taking(column, slot, frame, HEADER + size);
     }

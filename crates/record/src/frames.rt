@@ -4,10 +4,10 @@ ghost use mathlib.Core.Bool.{not};
 ghost use Prim.Native.Nat.{_+_, _*_, _≤_};
 ghost use lib.Dec.{eqb};
 ghost use lib.ListN.{length};
-ghost use Rattle.code.specs.Settings.{settings-refusal};
-ghost use Rattle.code.specs.Size.{most-columns};
+ghost use Rattle.code.specs.Settings.{settings, settings-refusal};
+ghost use Rattle.code.specs.Size.{most-columns, value-room, checks-room};
 ghost use Rattle.code.specs.Entry.{in-front};
-ghost use Rattle.record.specs.Frame.{header-size, frame-size, longest-frame, command-round, header};
+ghost use Rattle.record.specs.Frame.{header-size, operand-size, frame-size, longest-frame, command-round, header};
 ghost use Rattle.record.specs.Refusal.{frame-refusal};
 ghost use Rattle.record.specs.View.{settings-of};
 use crate::HEADER;
@@ -29,17 +29,23 @@ fn command_round(command: u8) -> u32
     0
 }
 
+// The bytes of a round's operand: a value, or 2t check values. How many columns there are has no part in it.
+pub fn operand_size(t: u32, w: u32, round: u32) -> usize
+    requires { ⌜ (t ≤ 10) × (w ≤ value-room) ⌝ }
+    ensures { λ r. ⌜ (r ≡ operand-size (settings 0 t w) round) × (r ≤ checks-room) ⌝ }
+{
+    if round == 1 {
+        return w as usize;
+    }
+    (2 * t * w) as usize
+}
+
 // The whole length of a round's frame, with the header.
 pub fn frame_size(who: Identity, round: u32) -> usize
     requires { ⌜ settings-refusal (settings-of who) ≡ 0 ⌝ }
     ensures { λ r. ⌜ (r ≡ frame-size (settings-of who) round) × (r ≤ longest-frame) ⌝ }
 {
-    let bad = who.t as usize;
-    let size = who.w as usize;
-    if round == 1 {
-        return HEADER + size;
-    }
-    HEADER + 2 * bad * size
+    HEADER + operand_size(who.t, who.w, round)
 }
 
 // The run number of a frame, high byte first.

@@ -6,7 +6,7 @@ use native.Mathlib.Omega.{arith}
 use borrow.Author.Needs.{needs}
 use lib.ListN.{length, take, drop, length-drop}
 use lib.Seq.{length-take-le}
-use Rattle.code.specs.Settings.{Settings, settings}
+use Rattle.code.specs.Settings.{Settings, settings, check-count, value-size}
 use Rattle.record.specs.Frame.{header-size, operand-size, frame-size}
 use Rattle.column.specs.Call.{after-take}
 use Rattle.record.specs.View.{view}
@@ -39,9 +39,10 @@ after-taking-requires c κs = search needs
 size-as :
     (c : tie.After-operand-size) (f : Said) → Located (c .before .before .before .args .file .now) (c .before .before .before .args .places) f →
     c .operand-size .result ≡ operand-size (f .settings) (c .before .before .before .args .round)
+unfolding operand-size value-size check-count settings
 size-as c f h =
     let a = c .before .before .before .args in
-    c .operand-size .ensures .0 (a .places .n) ∙ ap (λ (s : Settings). operand-size s (a .round)) (sym (h .settings))
+    c .operand-size .ensures .0 ∙ ap (λ (s : Settings). operand-size s (a .round)) (sym (h .settings))
 
 returns-2 : tie.Need-returns-2
 unfolding Hears frame-bytes frame-size

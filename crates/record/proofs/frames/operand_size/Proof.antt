@@ -3,14 +3,14 @@ use native.Mathlib.Omega.{arith}
 use borrow.Author.Tests.{eq-eqb, ne-eqb}
 use borrow.Author.Needs.{needs}
 use Rattle.code.specs.Settings.{settings, check-count, value-size}
 use Rattle.record.specs.Frame.{operand-size}
 use Rattle.record.proofs.Size.{checks-fit}
-use Rattle.bench.proofs.group.operand_size.Statement.{statement}
-use Rattle.bench.proofs.group.operand_size.Tie as tie
+use Rattle.record.proofs.frames.operand_size.Statement.{statement}
+use Rattle.record.proofs.frames.operand_size.Tie as tie
 
 returns : tie.Need-returns
 unfolding operand-size value-size settings
-returns c = ((λ n. simp (eq-eqb (c .before .args .round) 1 (c .if1 .taken))), omega arith)
+returns c = (simp (eq-eqb (c .before .args .round) 1 (c .if1 .taken)), omega arith)
 
 mul-result : tie.Need-mul-result
 mul-result c = search needs
@@ -23,7 +23,7 @@ cast-result c = let s = c .before in omega (arith, checks-fit (s .args .t) (s .a
 
 returns-2 : tie.Need-returns-2
 unfolding operand-size check-count value-size settings
-returns-2 c = let s = c .before in ((λ n. simp (ne-eqb (s .args .round) 1 (c .if1 .left))), checks-fit (s .args .t) (s .args .w) (s .pre .0) (s .pre .1))
+returns-2 c = let s = c .before in (simp (ne-eqb (s .args .round) 1 (c .if1 .left)), checks-fit (s .args .t) (s .args .w) (s .pre .0) (s .pre .1))
 
 pub operand-size-spec : {M : Type 1} → statement M
 operand-size-spec = tie.close (tie.spec returns mul-result mul-result-2 cast-result returns-2)
