@@ -13,6 +13,7 @@ ghost use Rattle.bench_file.specs.Step.{Begins, Accepted, Stepped};
 use crate::places;
 use crate::places::Places;
 use counting::lent;
+use record::frames;
 
 // The byte at a place; 0 past the end.
 fn byte_at(file: &[u8], at: usize) -> u32
@@ -90,9 +91,9 @@ fn body_size(t: u32, w: u32, command: u32) -> usize
         return 0;
     }
     if command == 3 {
-        return (2 * t * w) as usize;
+        return frames::operand_size(t, w, 2);
     }
-    w as usize
+    frames::operand_size(t, w, 1)
 }
 
 fn command_size(t: u32, w: u32, command: u32) -> usize
