@@ -54,7 +54,8 @@ enum sajowemi_answer {
 #define SAJOWEMI_VALUE_ROOM 8
 #define SAJOWEMI_VECTOR_ROOM 256
 
-/* Who a column is: n columns, t bad ones borne, w bytes of a value, its own number, 1 to n, the run, and its own value. */
+/* Who a column is: n columns, t bad ones borne, w bytes of a value, its own number, 1 to n, the run, and its own value. Two bytes of
+ * padding stand behind it, which no call reads. */
 struct sajowemi_identity {
     uint32_t n;
     uint32_t t;
