@@ -15,13 +15,13 @@ use Rattle.code.specs.Repair.{Near}
 use Rattle.code.proofs.Bytes.{Bytes, bytes-zeros}
 use Rattle.code.proofs.Word.{Shape}
 use Rattle.locator.specs.Locator.{massey}
-use Rattle.locator.specs.Errors.{error-byte, Located, Explained, Error-bytes}
-use Rattle.locator.proofs.Mended.{mended, mended-length, mended-at}
+use Rattle.locator.specs.Errors.{error-byte, mended, Located, Explained, Near-errors, Error-bytes}
+use Rattle.locator.proofs.Mended.{mended-length, mended-at}
 use Rattle.locator.proofs.Sound.{explained-near}
 use Rattle.locator.proofs.Complete.{near-size, near-explained}
 
 -- zero bytes with their errors added are the errors
-mended-zeros : (s : Settings) (ys es : List ℕ) → s .n ≤ length ys → Error-bytes s ys es → es ≡ mended s 0 (replicate (s .n) 0) (take (s .n) ys)
+pub mended-zeros : (s : Settings) (ys es : List ℕ) → s .n ≤ length ys → Error-bytes s ys es → es ≡ mended s 0 (replicate (s .n) 0) (take (s .n) ys)
 unfolding error-byte
 mended-zeros s ys es l errors =
     ext-getD 0 es (mended s 0 zeros (take (s .n) ys)) (errors .many ∙ sym (mended-length s 0 zeros (take (s .n) ys) ∙ long))
@@ -45,14 +45,9 @@ module _ (s : Settings) (cs : List ℕ) (S : ℕ → ℕ) (r : settings-refusal 
   shape = record { many = length-replicate (s .n) 0; many-checks = l; bytes = bytes-zeros (s .n); check-bytes = b }
 
   -- what is found is near
-  pub sound :
-      (ys es : List ℕ) → length ys ≡ s .n + check-count s → Bytes ys → Explained s S ys → Error-bytes s ys es →
-      (ds : List ℕ) × Near s (replicate (s .n) 0) cs es ds
-  sound ys es long bytes explained errors = (
-    mended s (s .n) cs (drop (s .n) ys),
-    rw (mended-zeros s ys es (omega arith) errors)
-        (explained-near s (replicate (s .n) 0) cs ys S r shape same long bytes explained),
-  )
+  pub sound : (ys : List ℕ) → length ys ≡ s .n + check-count s → Bytes ys → Explained s S ys → Near-errors s cs ys
+  sound ys long bytes explained =
+      record { few = explained .few; near = explained-near s (replicate (s .n) 0) cs ys S r shape same long bytes explained }
 
   -- what is near is found
   module _ (us ds : List ℕ) (near : Near s (replicate (s .n) 0) cs us ds) where

@@ -18,15 +18,9 @@ use Rattle.code.specs.Plane.{differ}
 use Rattle.code.proofs.Bytes.{Bytes, count-le}
 use Rattle.code.proofs.Place.{Place}
 use Rattle.code.proofs.Errors.{errors}
-use Rattle.locator.specs.Errors.{exponent, error-byte, wrong-places}
+use Rattle.locator.specs.Errors.{exponent, error-byte, mended, wrong-places}
 use Rattle.locator.proofs.Linear.{plus-again}
 use Rattle.locator.proofs.Places.{placed}
-
--- bytes with the errors at the places from place j on added
-unfoldable pub mended : Settings → (j : ℕ) → (bytes weighted : List ℕ) → List ℕ
-mended s j [] ys = []
-mended s j (b ∷ bs) [] = b ∷ bs
-mended s j (b ∷ bs) (y ∷ ys) = plus b (error-byte s j y) ∷ mended s (suc j) bs ys
 
 pub mended-length : (s : Settings) (j : ℕ) (bs ys : List ℕ) → length (mended s j bs ys) ≡ length bs
 unfolding mended

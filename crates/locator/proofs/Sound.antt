@@ -19,11 +19,11 @@ use Rattle.code.proofs.Bytes.{Bytes}
 use Rattle.code.proofs.PowerSum.{power-sum}
 use Rattle.code.proofs.Word.{sizes, Shape, word-back, word-errors, word-errors-sum}
 use Rattle.locator.specs.Locator.{against, quotient, value}
-use Rattle.locator.specs.Errors.{exponent, wrong-places, Explained}
+use Rattle.locator.specs.Errors.{exponent, mended, wrong-places, Explained}
 use Rattle.locator.proofs.Linear.{plus-again, syndrome-lt}
 use Rattle.locator.proofs.Places.{exponent-column, exponent-check, placed, placed-sum, placed-append}
 use Rattle.locator.proofs.Totals.{wrong-places-append}
-use Rattle.locator.proofs.Mended.{mended, mended-length, mended-bytes, mended-differ, mended-errors}
+use Rattle.locator.proofs.Mended.{mended-length, mended-bytes, mended-differ, mended-errors}
 
 -- the two parts of the weighted errors
 bytes-take : (n : ℕ) (ys : List ℕ) → Bytes ys → Bytes (take n ys)

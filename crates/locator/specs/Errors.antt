@@ -5,10 +5,11 @@ use mathlib.Core.Bool.{cond}
 use mathlib.Core.List.{List, [], _∷_}
 use Prim.Native.Nat.{ℕ, suc, _+_, _*_, _-_, _≤_, _<_}
 use lib.Dec.{ltb, eqb}
-use lib.ListN.{length, getD}
+use lib.ListN.{length, getD, take, drop, replicate}
 use Rattle.field.specs.Field.{plus, times, power, inverse}
 use Rattle.code.specs.Polynomial.{first-exponent}
 use Rattle.code.specs.Settings.{Settings, check-count}
+use Rattle.code.specs.Repair.{Near}
 use Rattle.locator.specs.Locator.{massey, value}
 
 -- place j of n columns and so many checks is 2 to this power: first the columns, then the checks
@@ -21,6 +22,12 @@ exponent s j = place-exponent (s .n) (check-count s) j
 -- a weighted error is the byte's error times a power of its place, with the exponent of the first root
 unfoldable pub error-byte : Settings → (j weighted : ℕ) → ℕ
 error-byte s j y = times y (inverse (power 2 (first-exponent * exponent s j)))
+
+-- bytes with the errors at the places from place j on added
+unfoldable pub mended : Settings → (j : ℕ) → (bytes weighted : List ℕ) → List ℕ
+mended s j [] ys = []
+mended s j (b ∷ bs) [] = b ∷ bs
+mended s j (b ∷ bs) (y ∷ ys) = plus b (error-byte s j y) ∷ mended s (suc j) bs ys
 
 -- how many weighted errors are not 0
 unfoldable pub wrong-places : (weighted : List ℕ) → ℕ
@@ -41,6 +48,12 @@ pub record Located (s : Settings) (S : ℕ → ℕ) (weighted : List ℕ) : Type
 pub record Explained (s : Settings) (S : ℕ → ℕ) (weighted : List ℕ) : Type 0 where
   pub few : wrong-places weighted ≤ s .t
   pub sums : (i : ℕ) → i < check-count s → plus (S i) (error-sum s i 0 weighted) ≡ 0
+
+-- the weighted errors of a plane of zeros and the checks cs, at its places in order, columns 1 to n and then checks 1 to 2t: at
+-- most t are not 0, and with them the plane is a codeword
+pub record Near-errors (s : Settings) (cs weighted : List ℕ) : Type 0 where
+  pub few : wrong-places weighted ≤ s .t
+  pub near : Near s (replicate (s .n) 0) cs (mended s 0 (replicate (s .n) 0) (take (s .n) weighted)) (mended s (s .n) cs (drop (s .n) weighted))
 
 -- the errors of the columns
 pub record Error-bytes (s : Settings) (weighted bytes : List ℕ) : Type 0 where

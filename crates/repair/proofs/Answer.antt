@@ -16,7 +16,6 @@ use Rattle.code.specs.Settings.{Settings, settings, settings-refusal, check-cou
 use Rattle.code.specs.Polynomial.{root, added}
 use Rattle.code.specs.Plane.{syndrome, is-codeword}
 use Rattle.code.specs.Vector.{plane, cut, glued}
-use Rattle.code.specs.Repair.{Near}
 use Rattle.code.specs.Entry.{values-in, in-front}
 use Rattle.code.specs.Steps.Lanes.{in-row, lane}
 use Rattle.code.proofs.Bytes.{Bytes, bytes-zeros}
@@ -25,14 +24,15 @@ use Rattle.code.proofs.Lane.{lane-length, lane-at, lane-zeros, lane-bytes}
 use Rattle.code.proofs.Near.{differ-self}
 use Rattle.code.proofs.Vector.{Values, plane-length, plane-bytes, vector-back}
 use Rattle.code.proofs.Word.{sizes, word-back}
+use Rattle.locator.specs.Errors.{mended}
 use Rattle.repair.specs.Difference.{plus-values, zeros}
 use Rattle.repair.specs.Entry.{Done-by, none-found}
 use Rattle.sums.specs.Rows.{Values-added, Check-sums, Zeros-as}
 use Rattle.repair.specs.Steps.Columns.{column-errors}
-use Rattle.repair.specs.Steps.Planes.{plane-sums, Decoded-as}
+use Rattle.repair.specs.Steps.Planes.{Decoded-as}
 use Rattle.sums.proofs.CheckRows.{values-lane, spare-lane}
 use Rattle.sums.proofs.CheckSums.{syndrome-zeros, summed-zeros, check-sums-syndrome, check-sums-spare}
-use Rattle.locator.proofs.Decoder.{sound, complete-size, complete}
+use Rattle.locator.proofs.Decoder.{mended-zeros}
 use Rattle.repair.proofs.Located.{column-errors-vector, column-errors-plane}
 use Rattle.repair.proofs.OwnVector.{plane-plus, plane-zeros, plus-values-length, plus-values-values}
 
@@ -124,62 +124,45 @@ module _ (n t w : ℕ) (vector own checks rows : List ℕ) (allowed : settings-r
   apart-lane : (p : ℕ) → p < w → lane p (2 * t) rows ≡ plane p apart
   apart-lane p h = values-lane (2 * t) w own checks rows difference p h ∙ sym (plane-plus p w ours theirs ours-values theirs-values)
 
-  -- the sums are its syndromes
-  module _ (sums : List ℕ) (summed : Check-sums (2 * t) (2 * t) rows sums) (small : w ≤ row-width) where
-    same-sums : (p : ℕ) → p < w → (i : ℕ) → i < 2 * t → plane-sums p (2 * t) sums i ≡ syndrome s i (replicate n 0) (plane p apart)
-    unfolding settings check-count
-    same-sums p h i l =
-        lane-at p (2 * t) sums i l ∙ check-sums-syndrome s n (2 * t) rows sums refl summed i p l (omega arith) ∙ ap (syndrome s i (replicate n 0)) (apart-lane p h)
+  -- some plane has no codeword near
+  pub answer-none :
+      (found : Bool) (weighted out : List ℕ) → found ≡ false → Decoded-as found w s rows weighted → Done-by s (values-in s n vector) ours theirs none-found out out
+  unfolding settings check-count value-size Decoded-as Done-by
+  answer-none true weighted out e d = absurd (let z : _≡_ {A = ℕ} 0 1 = cc in omega arith)
+  answer-none false weighted out e (p, h, none) =
+      inr (
+        refl,
+        record { at-plane = p; inside = h; none-near = λ us ds near. none us ds (rw (plane-zeros s p, sym (apart-lane p h)) at near) },
+        refl,
+      )
 
-    pub sums-spare : (i p : ℕ) → i < 2 * t → w ≤ p → p < row-width → getD sums (in-row i p) 0 ≡ 0
-    sums-spare i p h l k = check-sums-spare (2 * t) rows sums summed i p h k (spare-lane (2 * t) w own checks rows difference p l k)
-
-    -- some plane does not decode
-    pub answer-none :
-        (found : Bool) (weighted out : List ℕ) → found ≡ false → Decoded-as found w s sums weighted → Done-by s (values-in s n vector) ours theirs none-found out out
-    unfolding settings check-count value-size Decoded-as Done-by
-    answer-none true weighted out e d = absurd (let z : _≡_ {A = ℕ} 0 1 = cc in omega arith)
-    answer-none false weighted out e (p, h, fails) =
-        inr (
-          refl,
+  -- every plane has one
+  pub answer-found :
+      (found : Bool) (weighted out now : List ℕ) → w ≤ row-width → found ≡ true → Decoded-as found w s rows weighted →
+      now ≡ in-front (glued (plus-values (cut n w vector) (column-errors n 0 w weighted))) out → Done-by s (values-in s n vector) ours theirs 0 out now
+  unfolding settings check-count value-size Decoded-as Done-by values-in
+  answer-found false weighted out now small e d back = absurd (let z : _≡_ {A = ℕ} 0 1 = cc in omega arith)
+  answer-found true weighted out now small e d back =
+      inl (
+        refl,
+        (
+          column-errors n 0 w weighted,
           record {
-            at-plane = p;
-            inside = h;
-            none-near = λ us ds near.
-                let close : Near s (replicate n 0) (plane p apart) us ds = rw (plane-zeros s p) at near in
-                fails
-                (record {
-                  short = complete-size s (plane p apart) (plane-sums p (2 * t) sums) allowed (apart-long p) (apart-bytes p) (same-sums p h) us ds close;
-                  explained = complete s (plane p apart) (plane-sums p (2 * t) sums) allowed (apart-long p) (apart-bytes p) (same-sums p h) us ds close;
-                });
+            vector = column-errors-vector s weighted small (omega (arith, d .long, sizes s allowed .few-columns));
+            planes = λ p h. (
+              mended s n (lane p (2 * t) rows) (drop n (lane p (n + 2 * t) weighted)),
+              rw (
+                plane-zeros s p,
+                sym (apart-lane p h),
+                mended-zeros s (lane p (n + 2 * t) weighted) _ (omega (arith, lane-length p (n + 2 * t) weighted))
+                    (column-errors-plane s p (n + 2 * t) weighted h (omega arith) (d .bytes)),
+              )
+                  (d .each p h .near),
+            );
           },
-          refl,
-        )
-
-    -- every plane does
-    pub answer-found :
-        (found : Bool) (weighted out now : List ℕ) → found ≡ true → Decoded-as found w s sums weighted →
-        now ≡ in-front (glued (plus-values (cut n w vector) (column-errors n 0 w weighted))) out → Done-by s (values-in s n vector) ours theirs 0 out now
-    unfolding settings check-count value-size Decoded-as Done-by values-in
-    answer-found false weighted out now e d back = absurd (let z : _≡_ {A = ℕ} 0 1 = cc in omega arith)
-    answer-found true weighted out now e d back =
-        inl (
-          refl,
-          (
-            column-errors n 0 w weighted,
-            record {
-              vector = column-errors-vector s weighted small (omega (arith, d .long, sizes s allowed .few-columns));
-              planes = λ p h.
-                  let near =
-                  sound s (plane p apart) (plane-sums p (2 * t) sums) allowed (apart-long p) (apart-bytes p) (same-sums p h)
-                  (lane p (n + 2 * t) weighted) (plane p (column-errors n 0 w weighted)) (lane-length p (n + 2 * t) weighted)
-                  (lane-bytes p (n + 2 * t) weighted (d .bytes)) (d .each p h)
-                  (column-errors-plane s p (n + 2 * t) weighted h (omega arith) (d .bytes)) in
-                  (near .0, rw (plane-zeros s p) (near .1));
-            },
-            back,
-          ),
-        )
+          back,
+        ),
+      )
 
   -- the difference is zero: the zeros are a codeword with no checks
   pub answer-same :

@@ -6,6 +6,7 @@ pub mod PlaneLocators
 pub mod PlaneErrors
 pub mod PlaneDecoder
 pub mod OneError
+pub mod Decoding
 pub mod Answer
 pub mod Entry
 pub mod OwnChecks

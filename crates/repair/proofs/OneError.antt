@@ -20,7 +20,7 @@ use Rattle.code.proofs.Lane.{lane-length, lane-at, lane-is}
 use Rattle.code.proofs.Written.{all-zero, zero-at}
 use Rattle.locator.specs.Errors.{exponent, wrong-places, error-sum, Explained}
 use Rattle.locator.specs.Plane.{Single-at}
-use Rattle.repair.specs.Steps.Planes.{plane-sums, Explains, Decoded-as}
+use Rattle.repair.specs.Steps.Planes.{plane-sums, Explains}
 use Rattle.locator.proofs.Places.{place-exponent-settings}
 
 -- errors all of which are 0, or all but one
@@ -91,29 +91,24 @@ module _ (s : Settings) (p place : ℕ) (sums now : List ℕ) (single : Single-a
       }
 
 -- plane by plane
-pub record Singles (planes : ℕ) (s : Settings) (sums weighted : List ℕ) : Type 0 where
-  pub explains : Explains planes s sums weighted
-  pub others : (j p : ℕ) → planes ≤ p → p < row-width → getD weighted (in-row j p) 0 ≡ 0
-
-pub singles-none : (s : Settings) (sums weighted : List ℕ) → length weighted ≡ place-rows → all-zero weighted ≡ true → Singles 0 s sums weighted
-singles-none s sums weighted e z =
+pub explains-none : (s : Settings) (sums weighted : List ℕ) → length weighted ≡ place-rows → all-zero weighted ≡ true → Explains 0 s sums weighted
+explains-none s sums weighted e z =
     record {
-      explains = record { long = e; bytes = λ i. omega (arith, zero-at weighted z i); each = λ p h. absurd (omega arith) };
+      long = e;
+      bytes = λ i. omega (arith, zero-at weighted z i);
+      each = λ p h. absurd (omega arith);
       others = λ j p h l. zero-at weighted z (in-row j p);
     }
 
-pub singles-more :
+pub explains-more :
     (p place : ℕ) (s : Settings) (sums weighted : List ℕ) → p < row-width → 1 ≤ s .t → place < s .n + check-count s → in-row place p < place-rows →
-    getD sums p 0 < 256 → Single-at (s .n) (check-count s) p sums place → Singles p s sums weighted →
-    Singles (p + 1) s sums (set weighted (in-row place p) (getD sums p 0))
-singles-more p place s sums weighted h few inside room byte single d =
+    getD sums p 0 < 256 → Single-at (s .n) (check-count s) p sums place → Explains p s sums weighted →
+    Explains (p + 1) s sums (set weighted (in-row place p) (getD sums p 0))
+explains-more p place s sums weighted h few inside room byte single d =
     record {
-      explains =
-          record {
-            long = length-set weighted at v ∙ d .explains .long;
-            bytes = λ i. bytes i (ℕ-discrete i at);
-            each = λ k l. each k l (ℕ-discrete k p);
-          };
+      long = length-set weighted at v ∙ d .long;
+      bytes = λ i. bytes i (ℕ-discrete i at);
+      each = λ k l. each k l (ℕ-discrete k p);
       others = λ j k l e. kept (in-row j k) (λ q. omega arith) ∙ d .others j k (omega arith) e;
     }
   where
@@ -127,14 +122,14 @@ singles-more p place s sums weighted h few inside room byte single d =
     now = set weighted at v
 
     here : getD now at 0 ≡ v
-    here = getD-set-same weighted at v 0 (omega (arith, d .explains .long))
+    here = getD-set-same weighted at v 0 (omega (arith, d .long))
 
     kept : (i : ℕ) → (i ≡ at → ⊥) → getD now i 0 ≡ getD weighted i 0
     kept i e = getD-set-other weighted at i v 0 e
 
     bytes : (i : ℕ) → Dec (i ≡ at) → getD now i 0 < 256
     bytes i (yes e) = subst (λ (k : ℕ). getD now k 0 < 256) (sym e) (subst (λ (b : ℕ). b < 256) (sym here) byte)
-    bytes i (no e) = subst (λ (b : ℕ). b < 256) (sym (kept i e)) (d .explains .bytes i)
+    bytes i (no e) = subst (λ (b : ℕ). b < 256) (sym (kept i e)) (d .bytes i)
 
     each : (k : ℕ) → k < p + 1 → Dec (k ≡ p) → Explained s (plane-sums k (check-count s) sums) (lane k (s .n + check-count s) now)
     each k l (yes e) =
@@ -145,14 +140,7 @@ singles-more p place s sums weighted h few inside room byte single d =
         rw
         (lane-is k (s .n + check-count s) now (lane k (s .n + check-count s) weighted) (lane-length k _ weighted)
         (λ j g. kept (in-row j k) (λ f. e (omega arith)) ∙ sym (lane-at k _ weighted j g)))
-        (d .explains .each k (omega arith))
+        (d .each k (omega arith))
 
-pub singles-explain : {p planes : ℕ} {s : Settings} {sums weighted : List ℕ} → p ≡ planes → Singles p s sums weighted → Explains planes s sums weighted
-singles-explain {p} {planes} {s} {sums} {weighted} e d = subst (λ (k : ℕ). Explains k s sums weighted) e (d .explains)
-
-pub decoded-single :
-    (found : Bool) (planes : ℕ) (s : Settings) (sums weighted : List ℕ) → found ≡ true → (found ≡ true → Explains planes s sums weighted) →
-    Decoded-as found planes s sums weighted
-unfolding Decoded-as
-decoded-single true planes s sums weighted e d = d e
-decoded-single false planes s sums weighted e d = absurd (let z : _≡_ {A = ℕ} 0 1 = cc in omega arith)
+pub explains-whole : {p planes : ℕ} {s : Settings} {sums weighted : List ℕ} → p ≡ planes → Explains p s sums weighted → Explains planes s sums weighted
+explains-whole {p} {planes} {s} {sums} {weighted} e d = subst (λ (k : ℕ). Explains k s sums weighted) e d

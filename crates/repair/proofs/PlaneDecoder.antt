@@ -18,7 +18,7 @@ use Rattle.locator.specs.Locator.{massey}
 use Rattle.locator.specs.Errors.{error-sum, wrong-places}
 use Rattle.sums.specs.Rows.{Explained-as}
 use Rattle.sums.specs.Places.{Evaluated}
-use Rattle.repair.specs.Steps.Planes.{plane-sums, Locators, Locators-as, Longest, Weighted, Counted-as, Decoded-as}
+use Rattle.repair.specs.Steps.Planes.{plane-sums, Locators, Locators-as, Longest, Weighted, Counted-as, Searched-as}
 use Rattle.locator.proofs.Held.{massey-fitting}
 use Rattle.sums.proofs.ErrorSums.{explained-planes, unexplained-plane}
 
@@ -32,8 +32,8 @@ all-located false planes count t sums sizes rows e d = absurd (let z : _≡_ {A 
 
 pub not-located :
     (found : Bool) (n t planes : ℕ) (sums sizes rows weighted : List ℕ) → found ≡ false → Locators-as found planes (2 * t) t sums sizes rows →
-    Decoded-as false planes (settings n t planes) sums weighted
-unfolding Locators-as Decoded-as settings check-count
+    Searched-as false planes (settings n t planes) sums weighted
+unfolding Locators-as Searched-as settings check-count
 not-located false n t planes sums sizes rows weighted e (p, h, l) = (p, h, λ d. omega (arith, d .short))
 not-located true n t planes sums sizes rows weighted e d = absurd (let z : _≡_ {A = ℕ} 0 1 = cc in omega arith)
 
@@ -77,18 +77,18 @@ all-counted false planes s sums weighted e d = absurd (let z : _≡_ {A = ℕ} 0
 
 pub not-counted :
     (found : Bool) (planes : ℕ) (s : Settings) (sums weighted : List ℕ) → found ≡ false → Counted-as found planes s sums weighted →
-    Decoded-as found planes s sums weighted
-unfolding Counted-as Decoded-as
+    Searched-as found planes s sums weighted
+unfolding Counted-as Searched-as
 not-counted false planes s sums weighted e (p, h, (ys, located, l)) = (p, h, λ d. omega (arith, d .explained ys located .few))
 not-counted true planes s sums weighted e d = absurd (let z : _≡_ {A = ℕ} 0 1 = cc in omega arith)
 
 -- and the sums that they explain or do not
-pub decoded :
+pub searched :
     (e : Bool) (planes : ℕ) (s : Settings) (sums weighted : List ℕ) → planes ≤ row-width →
     ((i p : ℕ) → i < check-count s → planes ≤ p → p < row-width → getD sums (in-row i p) 0 ≡ 0) → Counted planes s sums weighted → Explained-as e s sums weighted →
-    Decoded-as e planes s sums weighted
-unfolding Decoded-as
-decoded true planes s sums weighted h z d x =
+    Searched-as e planes s sums weighted
+unfolding Searched-as
+searched true planes s sums weighted h z d x =
     record {
       long = d .errors .long;
       bytes = d .errors .bytes;
@@ -97,8 +97,9 @@ decoded true planes s sums weighted h z d x =
             few = d .few p l;
             sums = λ i k. ap (λ (a : ℕ). plus a (error-sum s i 0 (lane p (s .n + check-count s) weighted))) (lane-at p (check-count s) sums i k) ∙ explained-planes s sums weighted true x refl p (omega arith) i k;
           };
+      others = d .errors .others;
     }
-decoded false planes s sums weighted h z d x =
+searched false planes s sums weighted h z d x =
     let u = unexplained-plane s sums weighted false x refl planes z (λ j p g l k. d .errors .others j p l k) in (
       u .0,
       u .1,

@@ -109,8 +109,7 @@ fn by_difference(
     }
     let powers = field::powers();
     let logarithms = field::logarithms();
-    let sums = sums::rows::syndromes(&powers, &logarithms, &difference, count);
-    let errors = planes::decode(&powers, &logarithms, &sums, n, t, w);
+    let errors = planes::decode(&powers, &logarithms, &difference, n, t, w);
     if !errors.found {
         return NONE;
     }

@@ -6,9 +6,9 @@ ghost use lib.ListN.{length, getD};
 ghost use Rattle.field.specs.Table.{Powers, Logarithms};
 ghost use Rattle.code.specs.Steps.Lanes.{in-row};
 ghost use Rattle.code.specs.Size.{most-columns, most-checks, most-bad, row-width, check-rows};
-ghost use Rattle.code.specs.Settings.{settings};
+ghost use Rattle.code.specs.Settings.{settings, settings-refusal};
 ghost use Rattle.sums.specs.Places.{Evaluated};
-ghost use Rattle.repair.specs.Steps.Planes.{Locators-as, Locators as «Locators-of», Longest, Counted-as, Explains, Decoded-as};
+ghost use Rattle.repair.specs.Steps.Planes.{Locators-as, Locators as «Locators-of», Longest, Counted-as, Explains, Searched-as, Decoded-as};
 use code::sizes::LOCATOR_ROWS;
 use code::sizes::PLACE_ROWS;
 use code::sizes::ROW_WIDTH;
@@ -153,7 +153,7 @@ fn search_errors(
     requires { ⌜ Powers (now powers) × Logarithms (now logarithms) ⌝ }
     requires { ⌜ (n ≤ most-columns) × (1 ≤ t) × (t ≤ most-bad) × (planes ≤ row-width) × (length (now sums) ≡ check-rows) ⌝ }
     requires { ⌜ ((i p : ℕ) → i < 2 * t → planes ≤ p → p < row-width → getD (now sums) (in-row i p) 0 ≡ 0) ⌝ }
-    ensures { λ r. ⌜ Decoded-as (r .found) planes (settings n t planes) (now (sums .entry)) (r .weighted) ⌝ }
+    ensures { λ r. ⌜ Searched-as (r .found) planes (settings n t planes) (now (sums .entry)) (r .weighted) ⌝ }
 {
     let count = 2 * t;
     let located = locate_all(powers, logarithms, sums, count, t, planes);
@@ -222,23 +222,25 @@ fn single_errors(
     }
 }
 
-// The errors of all planes that explain their power sums; or some plane has no codeword near. One error in a plane needs no search.
+// The errors of all planes at their places, columns 1 to n and then checks 1 to 2t, by the difference of check values; or some plane
+// has no codeword near. One error in a plane needs no search.
 pub fn decode(
     powers: &[u8; 255],
     logarithms: &[u8; 256],
-    sums: &[u8],
+    difference: &[u8],
     n: usize,
     t: usize,
     planes: usize,
 ) -> Errors
     requires { ⌜ Powers (now powers) × Logarithms (now logarithms) ⌝ }
-    requires { ⌜ (1 ≤ n) × (n ≤ most-columns) × (1 ≤ t) × (t ≤ most-bad) × (planes ≤ row-width) × (length (now sums) ≡ check-rows) ⌝ }
-    requires { ⌜ ((i p : ℕ) → i < 2 * t → planes ≤ p → p < row-width → getD (now sums) (in-row i p) 0 ≡ 0) ⌝ }
-    ensures { λ r. ⌜ Decoded-as (r .found) planes (settings n t planes) (now (sums .entry)) (r .weighted) ⌝ }
+    requires { ⌜ (settings-refusal (settings n t planes) ≡ 0) × (1 ≤ t) × (planes ≤ row-width) × (length (now difference) ≡ check-rows) ⌝ }
+    requires { ⌜ ((i p : ℕ) → planes ≤ p → p < row-width → getD (now difference) (in-row i p) 0 ≡ 0) ⌝ }
+    ensures { λ r. ⌜ Decoded-as (r .found) planes (settings n t planes) (now (difference .entry)) (r .weighted) ⌝ }
 {
-    let single = single_errors(powers, logarithms, sums, n, t, planes);
+    let sums = sums::rows::syndromes(powers, logarithms, difference, 2 * t);
+    let single = single_errors(powers, logarithms, &sums, n, t, planes);
     if single.found {
         return single;
     }
-    search_errors(powers, logarithms, sums, n, t, planes)
+    search_errors(powers, logarithms, &sums, n, t, planes)
 }

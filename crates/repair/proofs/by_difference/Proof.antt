@@ -9,7 +9,7 @@ use Rattle.code.specs.Entry.{values-in}
 use Rattle.code.proofs.Bytes.{Bytes, bytes-every}
 use Rattle.code.proofs.Word.{sizes, value-in-row}
 use Rattle.repair.specs.Entry.{none-found}
-use Rattle.repair.proofs.Answer.{some-bad, decoded-long, copied, sums-spare, answer-none, answer-found, answer-same}
+use Rattle.repair.proofs.Answer.{some-bad, decoded-long, copied, answer-none, answer-found, answer-same}
 use Rattle.sums.proofs.Zeros.{zeros-of}
 use borrow.Author.Needs.{needs}
 use Rattle.repair.proofs.by_difference.Statement.{statement}
@@ -37,15 +37,18 @@ module _ (d : tie.After-difference) where
   check-bytes : Bytes (start d .args .checks .now)
   check-bytes = bytes-every (start d .args .checks .now) (λ i. d .before .before .shared-slice-known3 .given i .fits)
 
--- the way back from the syndromes to the difference
-abbrev difference-of : tie.After-syndromes → tie.After-difference
-difference-of y = y .before .before .before .before .before .before .before .before .before
+-- the ways back: from the errors to the tables of the field, from these to the difference
+abbrev tables : tie.After-decode → tie.After-logarithms
+tables e = e .before .before .before .before
+
+abbrev difference-of : tie.After-logarithms → tie.After-difference
+difference-of g = g .before .before .before .before .before
 
 mul-count : tie.Need-mul-count
 mul-count c = let z = bounds (c .before .before .before .before) in omega arith
 
 difference-requires : tie.Need-difference-requires
-difference-requires c κs = let z = bounds (c .before .before .before .before) in let l = c .before .before .before .before .pre .1 in (omega arith, z .2, omega arith, omega arith)
+difference-requires c κs = let s = c .before .before .before .before in let z = bounds s in let l = s .pre .1 in (omega arith, z .2, omega arith, omega arith)
 
 slice-aggregate-is-zero : tie.Need-slice-aggregate-is-zero
 slice-aggregate-is-zero c = sym (c .before .difference .ensures .long)
@@ -54,7 +57,7 @@ is-zero-requires : tie.Need-is-zero-requires
 is-zero-requires c κs = search needs
 
 copy-value-requires : tie.Need-copy-value-requires
-copy-value-requires c κs = let l = c .before .before .before .before .before .before .before .before .before .pre .1 in omega arith
+copy-value-requires c κs = let d = c .before .before .before .before in let l = start d .pre .1 in omega arith
 
 same-length : tie.Need-same-length
 same-length c = search needs
@@ -62,14 +65,16 @@ same-length c = search needs
 returns : tie.Need-returns
 unfolding values-in settings value-size
 returns c =
-    let d = c .before .before .before .before .before .before .before in
+    let copied-to = c .before .before in
+    let zero = copied-to .before .before .before in
+    let d = zero .before .before in
     let s = start d in
     let a = s .args in
     let rows = d .difference in
     answer-same (a .n) (a .t) (a .w) (a .vector .now) (a .own .now) (a .checks .now) (rows .result) (s .pre .0) (own-bytes d) (check-bytes d)
     (s .pre .1 .1) (s .pre .1 .2) (rows .ensures) (a .output .now) _ (bounds s .2)
-    (zeros-of _ (rows .result) (c .before .before .before .before .before .is-zero .ensures) (c .before .before .before .before .if1 .taken))
-    (s .pre .1 .0) (vector-bytes d) (copied (a .vector .now) (a .output .now) _ (omega (arith, s .pre .1)) (c .before .before .copy-value .ensures))
+    (zeros-of _ (rows .result) (zero .is-zero .ensures) (copied-to .before .before .if1 .taken))
+    (s .pre .1 .0) (vector-bytes d) (copied (a .vector .now) (a .output .now) _ (omega (arith, s .pre .1)) (copied-to .copy-value .ensures))
 
 powers-requires : tie.Need-powers-requires
 powers-requires c κs = search needs
@@ -77,66 +82,52 @@ powers-requires c κs = search needs
 logarithms-requires : tie.Need-logarithms-requires
 logarithms-requires c κs = search needs
 
-slice-aggregate-syndromes : tie.Need-slice-aggregate-syndromes
-slice-aggregate-syndromes c = sym (c .before .before .before .before .before .before .before .before .difference .ensures .long)
-
-syndromes-requires : tie.Need-syndromes-requires
-syndromes-requires c κs =
-    let d = c .before .before .before .before .before .before .before .before in
-    let z = bounds (start d) in
-    (c .before .before .before .before .powers .ensures, c .before .before .before .logarithms .ensures, omega arith, omega (arith, d .difference .ensures .long))
-
 slice-aggregate-decode : tie.Need-slice-aggregate-decode
-slice-aggregate-decode c = sym (c .before .before .before .syndromes .ensures .long)
+slice-aggregate-decode c = sym (difference-of (c .before .before .before) .difference .ensures .long)
 
 decode-requires : tie.Need-decode-requires
 decode-requires c κs =
-    let y = c .before .before .before in
-    let d = difference-of y in
+    let g = c .before .before .before in
+    let d = difference-of g in
     let s = start d in
     let a = s .args in
-    let z = bounds s in
     let rows = d .difference in (
-      (y .before .before .before .before .before .powers .ensures, y .before .before .before .before .logarithms .ensures),
+      (g .before .powers .ensures, g .logarithms .ensures),
       (
         (
-          omega arith,
-          z .0,
-          some-bad (a .t) (a .w) _ _ (rows .result) _ (y .before .before .before .before .before .before .before .is-zero .ensures)
-              (y .before .before .before .before .before .before .if1 .left) (rows .ensures),
-          omega arith,
-          z .2,
-          y .syndromes .ensures .long,
+          s .pre .0,
+          some-bad (a .t) (a .w) _ _ (rows .result) _ (g .before .before .before .is-zero .ensures) (g .before .before .if1 .left) (rows .ensures),
+          bounds s .2,
+          rows .ensures .long,
         ),
-        sums-spare (a .n) (a .t) (a .w) (a .vector .now) (a .own .now) (a .checks .now) (rows .result) (s .pre .0) (own-bytes d) (check-bytes d)
-            (s .pre .1 .1) (s .pre .1 .2) (rows .ensures) (y .syndromes .result) (y .syndromes .ensures) (z .2),
+        rows .ensures .spare,
       ),
     )
 
 returns-2 : tie.Need-returns-2
 unfolding values-in settings value-size none-found
 returns-2 c =
-    let y = c .before .before .before .before .before .before in
-    let d = difference-of y in
+    let e = c .before .before in
+    let d = difference-of (tables e) in
     let s = start d in
     let a = s .args in
     let rows = d .difference in
     answer-none (a .n) (a .t) (a .w) (a .vector .now) (a .own .now) (a .checks .now) (rows .result) (s .pre .0) (own-bytes d) (check-bytes d)
-    (s .pre .1 .1) (s .pre .1 .2) (rows .ensures) (y .syndromes .result) (y .syndromes .ensures) (bounds s .2) _ _ (a .output .now)
-    (not-true _ (c .if2 .taken)) (c .before .before .decode .ensures)
+    (s .pre .1 .1) (s .pre .1 .2) (rows .ensures) _ _ (a .output .now) (not-true _ (c .if2 .taken)) (e .decode .ensures)
 
 slice-aggregate-apply-errors : tie.Need-slice-aggregate-apply-errors
-slice-aggregate-apply-errors c = sym (decoded-long _ _ _ _ _ (not-false _ (c .before .before .before .before .if2 .left)) (c .before .before .before .before .before .before .decode .ensures))
+slice-aggregate-apply-errors c =
+    let found = c .before .before .before .before in sym (decoded-long _ _ _ _ _ (not-false _ (found .if2 .left)) (found .before .before .decode .ensures))
 
 apply-errors-requires : tie.Need-apply-errors-requires
 apply-errors-requires c κs =
-    let y = c .before .before .before .before .before .before .before .before .before .before .before in
-    let s = start (difference-of y) in
+    let found = c .before .before .before .before .before in
+    let e = found .before .before in
+    let g = tables e in
+    let s = start (difference-of g) in
     let z = bounds s in
-    let long = decoded-long _ _ _ _ _ (not-false _ (c .before .before .before .before .before .if2 .left)) (c .before .before .before .before .before .before .before .decode .ensures) in (
-      (y .before .before .before .before .before .powers .ensures, y .before .before .before .before .logarithms .ensures),
-      ((z .0, z .2, omega arith), (s .pre .1 .0, s .pre .1 .3)),
-    )
+    let long = decoded-long _ _ _ _ _ (not-false _ (found .if2 .left)) (e .decode .ensures) in
+    ((g .before .powers .ensures, g .logarithms .ensures), ((z .0, z .2, omega arith), (s .pre .1 .0, s .pre .1 .3)))
 
 same-length-2 : tie.Need-same-length-2
 same-length-2 c = search needs
@@ -144,15 +135,17 @@ same-length-2 c = search needs
 returns-3 : tie.Need-returns-3
 unfolding values-in settings value-size
 returns-3 c =
-    let y = c .before .before .before .before .before .before .before .before .before .before .before .before .before .before in
-    let d = difference-of y in
+    let applied = c .before .before in
+    let weighted = applied .before .before .before .before .before in
+    let found = weighted .before in
+    let e = found .before .before in
+    let d = difference-of (tables e) in
     let s = start d in
     let a = s .args in
     let rows = d .difference in
     answer-found (a .n) (a .t) (a .w) (a .vector .now) (a .own .now) (a .checks .now) (rows .result) (s .pre .0) (own-bytes d) (check-bytes d)
-    (s .pre .1 .1) (s .pre .1 .2) (rows .ensures) (y .syndromes .result) (y .syndromes .ensures) (bounds s .2) _ _ (a .output .now) _
-    (not-false _ (c .before .before .before .before .before .before .before .before .if2 .left))
-    (c .before .before .before .before .before .before .before .before .before .before .decode .ensures) (c .before .before .apply-errors .ensures)
+    (s .pre .1 .1) (s .pre .1 .2) (rows .ensures) _ _ (a .output .now) _ (bounds s .2) (not-false _ (found .if2 .left)) (e .decode .ensures)
+    (applied .apply-errors .ensures)
 
 pub by-difference-spec : {M : Type 1} → statement M
 by-difference-spec =
@@ -167,8 +160,6 @@ by-difference-spec =
     returns
     powers-requires
     logarithms-requires
-    slice-aggregate-syndromes
-    syndromes-requires
     slice-aggregate-decode
     decode-requires
     returns-2

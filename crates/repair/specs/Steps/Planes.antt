@@ -3,12 +3,13 @@ use mathlib.Core.Path.{_≡_}
 use mathlib.Core.Bool.{Bool, true, false}
 use mathlib.Core.List.{List}
 use Prim.Native.Nat.{ℕ, _+_, _≤_, _<_}
-use lib.ListN.{length, getD}
+use lib.ListN.{length, getD, replicate}
 use Rattle.code.specs.Size.{row-width, place-rows, locator-rows}
 use Rattle.code.specs.Settings.{Settings, check-count}
+use Rattle.code.specs.Repair.{Near}
 use Rattle.code.specs.Steps.Lanes.{in-row, lane}
 use Rattle.locator.specs.Locator.{massey}
-use Rattle.locator.specs.Errors.{wrong-places, Located, Explained}
+use Rattle.locator.specs.Errors.{wrong-places, Located, Explained, Near-errors}
 
 -- the power sums of plane p, as a sequence
 abbrev pub plane-sums : (p count : ℕ) → (sums : List ℕ) → ℕ → ℕ
@@ -52,13 +53,27 @@ pub record Decodes (s : Settings) (S : ℕ → ℕ) : Type 0 where
   pub short : massey S (check-count s) .size ≤ s .t
   pub explained : (weighted : List ℕ) → Located s S weighted → Explained s S weighted
 
--- weighted errors that explain the power sums of the first planes
+-- weighted errors that explain the power sums of the first planes, and zeros for the other planes
 pub record Explains (planes : ℕ) (s : Settings) (sums weighted : List ℕ) : Type 0 where
   pub long : length weighted ≡ place-rows
   pub bytes : (i : ℕ) → getD weighted i 0 < 256
   pub each : (p : ℕ) → p < planes → Explained s (plane-sums p (check-count s) sums) (lane p (s .n + check-count s) weighted)
+  pub others : (j p : ℕ) → planes ≤ p → p < row-width → getD weighted (in-row j p) 0 ≡ 0
 
 -- errors that explain every plane's sums, or a plane that does not decode
-unfoldable pub Decoded-as : (found : Bool) → (planes : ℕ) → Settings → (sums weighted : List ℕ) → Type 0
-Decoded-as true planes s sums weighted = Explains planes s sums weighted
-Decoded-as false planes s sums weighted = (p : ℕ) × (p < planes) × (Decodes s (plane-sums p (check-count s) sums) → ⊥)
+unfoldable pub Searched-as : (found : Bool) → (planes : ℕ) → Settings → (sums weighted : List ℕ) → Type 0
+Searched-as true planes s sums weighted = Explains planes s sums weighted
+Searched-as false planes s sums weighted = (p : ℕ) × (p < planes) × (Decodes s (plane-sums p (check-count s) sums) → ⊥)
+
+-- the errors of all planes of zeros and a difference of checks in rows, one for each place, and zeros for the other planes
+pub record Decoded (planes : ℕ) (s : Settings) (difference weighted : List ℕ) : Type 0 where
+  pub long : length weighted ≡ place-rows
+  pub bytes : (i : ℕ) → getD weighted i 0 < 256
+  pub each : (p : ℕ) → p < planes → Near-errors s (lane p (check-count s) difference) (lane p (s .n + check-count s) weighted)
+  pub others : (j p : ℕ) → planes ≤ p → p < row-width → getD weighted (in-row j p) 0 ≡ 0
+
+-- the decoder's promise: the errors of all planes, or a plane that has no codeword near
+unfoldable pub Decoded-as : (found : Bool) → (planes : ℕ) → Settings → (difference weighted : List ℕ) → Type 0
+Decoded-as true planes s difference weighted = Decoded planes s difference weighted
+Decoded-as false planes s difference weighted =
+    (p : ℕ) × (p < planes) × ((us ds : List ℕ) → Near s (replicate (s .n) 0) (lane p (check-count s) difference) us ds → ⊥)

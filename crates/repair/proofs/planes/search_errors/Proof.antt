@@ -3,7 +3,7 @@ use mathlib.Core.Path.{refl}
 use native.Mathlib.Omega.{arith}
 use borrow.Author.Tests.{not-true, not-false}
 use Rattle.code.specs.Settings.{settings, check-count}
-use Rattle.repair.proofs.PlaneDecoder.{all-located, not-located, all-evaluated, all-counted, not-counted, decoded}
+use Rattle.repair.proofs.PlaneDecoder.{all-located, not-located, all-evaluated, all-counted, not-counted, searched}
 use borrow.Author.Needs.{needs}
 use Rattle.repair.proofs.planes.search_errors.Statement.{statement}
 use Rattle.repair.proofs.planes.search_errors.Tie as tie
@@ -69,7 +69,7 @@ returns-3 : tie.Need-returns-3
 unfolding settings check-count
 returns-3 c =
     let s = c .before .before .before .before .before .before .before .before .before .before .before .before .before .before .before .before .before in
-    decoded _ _ (settings (s .args .n) (s .args .t) (s .args .planes)) _ _ (omega arith) (s .pre .1 .1)
+    searched _ _ (settings (s .args .n) (s .args .t) (s .args .planes)) _ _ (omega arith) (s .pre .1 .1)
     (all-counted _ _ _ _ _ (not-false _ (c .before .before .before .if2 .left)) (c .before .before .before .before .before .errors-at-places .ensures))
     (c .leaves-nothing .ensures (settings (s .args .n) (s .args .t) (s .args .planes)) refl refl)
 

@@ -3,12 +3,13 @@ use mathlib.Core.Path.{_≡_, refl}
 use Prim.Native.Nat.{ℕ, _-_, _≤_}
 use native.Mathlib.Omega.{arith}
 use Rattle.code.specs.Settings.{settings, check-count}
-use Rattle.repair.proofs.OneError.{Singles, singles-none, singles-more, singles-explain}
+use Rattle.repair.specs.Steps.Planes.{Explains}
+use Rattle.repair.proofs.OneError.{explains-none, explains-more, explains-whole}
 use Rattle.repair.proofs.planes.single_errors.Statement.{statement}
 use Rattle.repair.proofs.planes.single_errors.Tie as tie
 
 abbrev Inv-loop : tie.InvT-loop
-Inv-loop powers logarithms sums n t size count weighted₀ p₀ weighted p = (p ≤ size) × Singles p (settings n t size) sums weighted
+Inv-loop powers logarithms sums n t size count weighted₀ p₀ weighted p = (p ≤ size) × Explains p (settings n t size) sums weighted
 
 abbrev μ-loop : tie.MeasureT-loop
 μ-loop powers logarithms sums n t size count weighted₀ p₀ weighted p = size - p
@@ -17,7 +18,7 @@ mul-count : tie.Need-mul-count Inv-loop μ-loop
 mul-count c = omega arith
 
 loop-holds : tie.Need-loop-holds Inv-loop μ-loop
-loop-holds c = (omega arith, singles-none _ _ _ refl refl)
+loop-holds c = (omega arith, explains-none _ _ _ refl refl)
 
 single-place-requires : tie.Need-single-place-requires Inv-loop μ-loop
 single-place-requires c κs =
@@ -54,12 +55,12 @@ loop-again c =
     let a = l .before .before .args in
     let bounds = l .before .before .pre .1 in (
       omega arith,
-      singles-more (l .loop .p) (c .before .before .single-place .result) (settings (a .n) (a .t) (a .planes)) (a .sums .now) (l .loop .weighted) (omega arith) (omega arith)
+      explains-more (l .loop .p) (c .before .before .single-place .result) (settings (a .n) (a .t) (a .planes)) (a .sums .now) (l .loop .weighted) (omega arith) (omega arith)
           (omega arith) (omega arith) (c .shared-slice-known2 .given (l .loop .p) .fits) (c .before .before .single-place .ensures) (l .loop .inv .1),
     )
 
 returns-2 : tie.Need-returns-2 Inv-loop μ-loop
-returns-2 c = λ e. singles-explain (let q : c .before .loop .p ≡ _ = omega arith in q) (c .before .loop .inv .1)
+returns-2 c = λ e. explains-whole (let q : c .before .loop .p ≡ _ = omega arith in q) (c .before .loop .inv .1)
 
 pub single-errors-spec : {M : Type 1} → statement M
 single-errors-spec =
