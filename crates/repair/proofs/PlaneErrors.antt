@@ -9,7 +9,7 @@ use native.Mathlib.Decide.{decLt, ℕ-discrete}
 use lib.ListN.{length, getD, take, List·getD-eq-default}
 use lib.Seq.{getD-take, ext-getD, length-take-le}
 use Rattle.code.specs.Size.{most-bad, plane-room, row-width, place-rows}
-use Rattle.code.specs.Settings.{Settings, check-count}
+use Rattle.code.specs.Settings.{Settings, settings, check-count}
 use Rattle.code.specs.Steps.Array.{Filled}
 use Rattle.code.specs.Steps.Lanes.{in-row, lane}
 use Rattle.code.proofs.Lane.{lane-length, lane-at}
@@ -67,53 +67,47 @@ weighted-none s sums weighted e z =
       others = λ j p h l. zero-at weighted z (in-row j p);
     }
 
-pub weighted-more :
-    (p : ℕ) (s : Settings) (sums places weighted now : List ℕ) → p < row-width → Place-powers 1 (s .n) (check-count s) places → Weighted p s sums weighted →
-    Lane-written p (s .n + check-count s)
-    (λ j. value (plane-sums p (check-count s) sums) (massey (plane-sums p (check-count s) sums) (check-count s) .locator) (getD (take (s .n + check-count s) places) j 0))
-    weighted now →
-    Weighted (p + 1) s sums now
-weighted-more p s sums places weighted now h q d w =
-    record {
-      long = w .long ∙ d .long;
-      bytes = λ i. byte i (decLt (i / row-width) (s .n + check-count s)) (ℕ-discrete (i % row-width) p);
-      located = λ k l. located k l (ℕ-discrete k p);
-      others = λ j k l e. w .rest (in-row j k) (λ i g f. omega arith) ∙ d .others j k (omega arith) e;
-    }
-  where
-    byte : (i : ℕ) → Dec (i / row-width < s .n + check-count s) → Dec (i % row-width ≡ p) → getD now i 0 < 256
-    byte i (yes a) (yes e) =
-        subst (λ (k : ℕ). getD now k 0 < 256) (let f : in-row (i / row-width) p ≡ i = omega arith in f)
-        (subst (λ (v : ℕ). v < 256) (sym (w .new (i / row-width) a)) (value-lt _ _ _))
-    byte i (no a) e = subst (λ (v : ℕ). v < 256) (sym (w .rest i (λ j g f. a (omega arith)))) (d .bytes i)
-    byte i (yes a) (no e) = subst (λ (v : ℕ). v < 256) (sym (w .rest i (λ j g f. e (omega arith)))) (d .bytes i)
-
-    located : (k : ℕ) → k < p + 1 → Dec (k ≡ p) → Located s (plane-sums k (check-count s) sums) (lane k (s .n + check-count s) now)
-    located k l (yes e) =
-        rw e (lane-located s p (plane-sums p (check-count s) sums) places weighted now q w)
-    located k l (no e) =
-        rw (lane-kept p k (s .n + check-count s) (s .n + check-count s) _ weighted now h (omega arith) e w) (d .located k (omega arith))
-
-pub counted-more :
-    (p many t : ℕ) (f : ℕ → ℕ) (weighted now : List ℕ) → p < row-width → Lane-written p many f weighted now → wrong-places (lane p many now) ≤ t →
-    ((k : ℕ) → k < p → wrong-places (lane k many weighted) ≤ t) → (k : ℕ) → k < p + 1 → wrong-places (lane k many now) ≤ t
-counted-more p many t f weighted now h w e d k l = go (ℕ-discrete k p)
-  where
-    go : Dec (k ≡ p) → wrong-places (lane k many now) ≤ t
-    go (yes q) = rw q e
-    go (no q) = rw (lane-kept p k many many f weighted now h (omega arith) q w) (d k (omega arith))
-
 -- what a search of a plane writes, by the plane's own sums and locator
-pub written-by :
-    (p many t n : ℕ) (sums sizes rows plane locator places weighted now : List ℕ) → p < many → 1 ≤ t → t ≤ most-bad → Locators many (2 * t) t sums sizes rows →
-    Filled plane-room (2 * t) (λ j. getD sums (in-row j p) 0) plane → Filled plane-room (t + 1) (λ j. getD rows (in-row j p) 0) locator →
-    Lane-written p (length (take (n + 2 * t) places))
-    (λ j. value (λ i. getD (take (2 * t) plane) i 0) (take (getD sizes p 0 + 1) locator) (getD (take (n + 2 * t) places) j 0)) weighted now →
-    length (take (n + 2 * t) places) ≡ n + 2 * t →
-    Lane-written p (n + 2 * t)
-    (λ j. value (plane-sums p (2 * t) sums) (massey (plane-sums p (2 * t) sums) (2 * t) .locator) (getD (take (n + 2 * t) places) j 0)) weighted now
-written-by p many t n sums sizes rows plane locator places weighted now h o k d f g w e =
-    subst₂
-    (λ (l ps : List ℕ). Lane-written p (n + 2 * t) (λ j. value (λ i. getD l i 0) ps (getD (take (n + 2 * t) places) j 0)) weighted now)
-    (plane-taken p (2 * t) sums plane (omega arith) f) (locator-taken p many (2 * t) t sums sizes rows locator h (omega arith) d g)
-    (lane-written-to e w)
+module _ (n t : ℕ) {p many : ℕ} {sums sizes rows plane locator places weighted now : List ℕ} (h : p < many) (small : many ≤ row-width) (some-bad : 1 ≤ t) (few-bad : t ≤ most-bad) (d : Locators many (2 * t) t sums sizes rows) (f : Filled plane-room (2 * t) (λ j. getD sums (in-row j p) 0) plane) (g : Filled plane-room (t + 1) (λ j. getD rows (in-row j p) 0) locator) (q : Place-powers 1 n (2 * t) places) (long : length (take (n + 2 * t) places) ≡ n + 2 * t) (w : Lane-written p (length (take (n + 2 * t) places)) (λ j. value (λ i. getD (take (2 * t) plane) i 0) (take (getD sizes p 0 + 1) locator) (getD (take (n + 2 * t) places) j 0)) weighted now) where
+  abbrev told : ℕ → ℕ
+  told j = value (plane-sums p (2 * t) sums) (massey (plane-sums p (2 * t) sums) (2 * t) .locator) (getD (take (n + 2 * t) places) j 0)
+
+  written : Lane-written p (n + 2 * t) told weighted now
+  written =
+      subst₂
+      (λ (l ps : List ℕ). Lane-written p (n + 2 * t) (λ j. value (λ i. getD l i 0) ps (getD (take (n + 2 * t) places) j 0)) weighted now)
+      (plane-taken p (2 * t) sums plane (omega arith) f) (locator-taken p many (2 * t) t sums sizes rows locator h (omega arith) d g)
+      (lane-written-to long w)
+
+  kept : (k : ℕ) → k < p + 1 → (k ≡ p → ⊥) → lane k (n + 2 * t) now ≡ lane k (n + 2 * t) weighted
+  kept k l e = lane-kept p k (n + 2 * t) (n + 2 * t) told weighted now (omega arith) (omega arith) e written
+
+  pub weighted-more : Weighted p (settings n t many) sums weighted → Weighted (p + 1) (settings n t many) sums now
+  unfolding settings check-count
+  weighted-more b =
+      record {
+        long = written .long ∙ b .long;
+        bytes = λ i. byte i (decLt (i / row-width) (n + 2 * t)) (ℕ-discrete (i % row-width) p);
+        located = λ k l. located k l (ℕ-discrete k p);
+        others = λ j k l e. written .rest (in-row j k) (λ i g f. omega arith) ∙ b .others j k (omega arith) e;
+      }
+    where
+      byte : (i : ℕ) → Dec (i / row-width < n + 2 * t) → Dec (i % row-width ≡ p) → getD now i 0 < 256
+      byte i (yes a) (yes e) =
+          subst (λ (k : ℕ). getD now k 0 < 256) (let f : in-row (i / row-width) p ≡ i = omega arith in f)
+          (subst (λ (v : ℕ). v < 256) (sym (written .new (i / row-width) a)) (value-lt _ _ _))
+      byte i (no a) e = subst (λ (v : ℕ). v < 256) (sym (written .rest i (λ j g f. a (omega arith)))) (b .bytes i)
+      byte i (yes a) (no e) = subst (λ (v : ℕ). v < 256) (sym (written .rest i (λ j g f. e (omega arith)))) (b .bytes i)
+
+      located : (k : ℕ) → k < p + 1 → Dec (k ≡ p) → Located (settings n t many) (plane-sums k (2 * t) sums) (lane k (n + 2 * t) now)
+      located k l (yes e) = rw e (lane-located (settings n t many) p (plane-sums p (2 * t) sums) places weighted now q written)
+      located k l (no e) = rw (kept k l e) (b .located k (omega arith))
+
+  pub counted-more :
+      wrong-places (lane p (n + 2 * t) now) ≤ t → ((k : ℕ) → k < p → wrong-places (lane k (n + 2 * t) weighted) ≤ t) →
+      (k : ℕ) → k < p + 1 → wrong-places (lane k (n + 2 * t) now) ≤ t
+  counted-more few b k l = go (ℕ-discrete k p)
+    where
+      go : Dec (k ≡ p) → wrong-places (lane k (n + 2 * t) now) ≤ t
+      go (yes e) = rw e few
+      go (no e) = rw (kept k l e) (b k (omega arith))

@@ -2,14 +2,14 @@
 use mathlib.Core.Path.{_≡_, refl, sym, _∙_, subst}
 use Prim.Native.Nat.{ℕ, _+_, _*_, _-_, _≤_, _<_}
 use native.Mathlib.Omega.{arith}
-use lib.ListN.{getD}
+use lib.ListN.{length, getD, take}
 use lib.Seq.{length-take-le}
 use Rattle.code.specs.Settings.{settings, check-count}
 use Rattle.code.specs.Steps.Lanes.{lane}
 use Rattle.locator.specs.Errors.{wrong-places}
 use Rattle.repair.specs.Steps.Planes.{Weighted, Counted-as}
 use Rattle.repair.proofs.Located.{locator-values}
-use Rattle.repair.proofs.PlaneErrors.{lane-locator, weighted-none, weighted-more, counted-more, written-by}
+use Rattle.repair.proofs.PlaneErrors.{lane-locator, weighted-none, weighted-more, counted-more}
 use Rattle.repair.proofs.planes.errors_at_places.Statement.{statement}
 use Rattle.repair.proofs.planes.errors_at_places.Tie as tie
 
@@ -19,6 +19,33 @@ Inv-loop powers logarithms sums rows values n t size sizes count many places wei
 
 abbrev μ-loop : tie.MeasureT-loop
 μ-loop powers logarithms sums rows values n t size sizes count many places weighted₀ p₀ weighted p = size - p
+
+-- the ways back: from the errors to both planes, from these to the turn, from the turn to the start
+abbrev taken : tie.After-weighted-errors Inv-loop μ-loop → tie.After-plane-of2 Inv-loop μ-loop
+taken e = e .before .before .before .before .before
+
+abbrev turn : tie.After-plane-of2 Inv-loop μ-loop → tie.At-loop Inv-loop μ-loop
+turn o = o .before .before .before
+
+abbrev start : tie.At-loop Inv-loop μ-loop → tie.Start Inv-loop μ-loop
+start l = l .before .before .before .before .before
+
+-- what is known once the plane's sums and its locator are taken out of their rows
+module _ (o : tie.After-plane-of2 Inv-loop μ-loop) where
+  inside : turn o .loop .p < start (turn o) .args .planes
+  inside = o .before .before .loop-test .taken
+
+  small : getD (start (turn o) .args .t4) (turn o .loop .p) 0 ≤ start (turn o) .args .t
+  small = start (turn o) .pre .1 .1 .0 .small (turn o .loop .p) inside
+
+  locator-long : let many = getD (start (turn o) .args .t4) (turn o .loop .p) 0 + 1 in length (take many (o .plane-of2 .result)) ≡ many
+  locator-long = length-take-le _ (o .plane-of2 .result) (omega (arith, small, start (turn o) .pre .1 .0, o .plane-of2 .ensures .long))
+
+  plane-long : let many = 2 * start (turn o) .args .t in length (take many (o .before .plane-of .result)) ≡ many
+  plane-long = length-take-le _ (o .before .plane-of .result) (omega (arith, start (turn o) .pre .1 .0, o .before .plane-of .ensures .long))
+
+  places-long : let many = start (turn o) .args .n + 2 * start (turn o) .args .t in length (take many (turn o .before .place-powers .result)) ≡ many
+  places-long = length-take-le _ (turn o .before .place-powers .result) (omega (arith, start (turn o) .pre .1 .0, turn o .before .place-powers .ensures .long))
 
 mul-count : tie.Need-mul-count Inv-loop μ-loop
 mul-count c = omega arith
@@ -39,7 +66,7 @@ add-plane-of : tie.Need-add-plane-of Inv-loop μ-loop
 add-plane-of c = omega arith
 
 plane-of-requires-2 : tie.Need-plane-of-requires-2 Inv-loop μ-loop
-plane-of-requires-2 c κs = let d = c .before .before .before .before .before .before .before .pre .1 .1 .0 in omega (arith, d .long)
+plane-of-requires-2 c κs = omega (arith, start (c .before .before) .pre .1 .1 .0 .long)
 
 mul-end : tie.Need-mul-end Inv-loop μ-loop
 mul-end c = omega arith
@@ -48,53 +75,49 @@ array-read-end : tie.Need-array-read-end Inv-loop μ-loop
 array-read-end c = omega arith
 
 add-end : tie.Need-add-end Inv-loop μ-loop
-add-end c = let d = c .before .before .before .before .before .before .before .before .pre .1 .1 .0 in omega (arith, d .small (c .before .before .before .loop .p) (omega arith))
+add-end c = omega (arith, small c)
 
 array-share-prefix-locator : tie.Need-array-share-prefix-locator Inv-loop μ-loop
-array-share-prefix-locator c = let d = c .before .before .before .before .before .before .before .before .pre .1 .1 .0 in omega (arith, d .small (c .before .before .before .loop .p) (omega arith), c .plane-of2 .ensures .long)
+array-share-prefix-locator c = omega (arith, small c, c .plane-of2 .ensures .long)
 
 slice-aggregate-weighted-errors : tie.Need-slice-aggregate-weighted-errors Inv-loop μ-loop
-slice-aggregate-weighted-errors c = let d = c .before .before .before .before .before .before .before .before .before .pre .1 .1 .0 in sym (length-take-le _ _ (omega (arith, d .small (c .before .before .before .before .loop .p) (omega arith), c .before .plane-of2 .ensures .long)))
+slice-aggregate-weighted-errors c = sym (locator-long (c .before))
 
 array-share-prefix-plane : tie.Need-array-share-prefix-plane Inv-loop μ-loop
 array-share-prefix-plane c = omega (arith, c .before .before .plane-of .ensures .long)
 
 slice-aggregate-weighted-errors-2 : tie.Need-slice-aggregate-weighted-errors-2 Inv-loop μ-loop
-slice-aggregate-weighted-errors-2 c = sym (length-take-le _ _ (omega (arith, c .before .before .before .plane-of .ensures .long)))
+slice-aggregate-weighted-errors-2 c = sym (plane-long (c .before .before))
 
 array-share-prefix-places : tie.Need-array-share-prefix-places Inv-loop μ-loop
-array-share-prefix-places c = omega (arith, c .before .before .before .before .before .before .place-powers .ensures .long)
+array-share-prefix-places c = omega (arith, turn (c .before .before) .before .place-powers .ensures .long)
 
 slice-aggregate-weighted-errors-3 : tie.Need-slice-aggregate-weighted-errors-3 Inv-loop μ-loop
-slice-aggregate-weighted-errors-3 c = sym (length-take-le _ _ (omega (arith, c .before .before .before .before .before .before .before .place-powers .ensures .long)))
+slice-aggregate-weighted-errors-3 c = sym (places-long (c .before .before .before))
 
 slice-aggregate-weighted-errors-4 : tie.Need-slice-aggregate-weighted-errors-4 Inv-loop μ-loop
-slice-aggregate-weighted-errors-4 c = sym (c .before .before .before .before .before .before .before .loop .inv .1 .long)
+slice-aggregate-weighted-errors-4 c = sym (turn (c .before .before .before .before) .loop .inv .1 .long)
 
 weighted-errors-requires : tie.Need-weighted-errors-requires Inv-loop μ-loop
 weighted-errors-requires c κs =
-    let s = c .before .before .before .before .before .before .before .before .before .before .before .before in
-    let l = c .before .before .before .before .before .before .before in
-    let d = s .pre .1 .1 .0 in
+    let o = c .before .before .before .before in
+    let l = turn o in
+    let s = start l in
     let a = s .args in
-    let inside = c .before .before .before .before .before .before .loop-test .taken in
+    let d = s .pre .1 .1 .0 in
     let bounds = s .pre .1 .0 in
-    let small = d .small (l .loop .p) inside in
-    let locator = length-take-le (getD (a .t4) (l .loop .p) 0 + 1) (c .before .before .before .before .plane-of2 .result) (omega (arith, c .before .before .before .before .plane-of2 .ensures .long)) in
-    let plane = length-take-le (2 * a .t) (c .before .before .before .before .before .plane-of .result) (omega (arith, c .before .before .before .before .before .plane-of .ensures .long)) in
-    let places = length-take-le (a .n + 2 * a .t) (c .before .before .before .before .before .before .before .before .place-powers .result) (omega (arith, c .before .before .before .before .before .before .before .before .place-powers .ensures .long)) in
     let values = s .pre .1 .1 .1 in (
       s .pre .0,
       (
-        (omega arith, omega arith, omega arith),
+        (omega (arith, small o, locator-long o, plane-long o), omega (arith, inside o), omega (arith, places-long o)),
         (
-          (omega (arith, values .long), omega (arith, l .loop .inv .1 .long)),
+          (omega (arith, values .long, places-long o), omega (arith, l .loop .inv .1 .long, places-long o)),
           (
             λ j h.
-                locator-values (l .loop .p) (a .t + 1) (a .n) (2 * a .t) (a .rows .now) (a .values .now) _ _ (omega arith) (c .before .before .before .before .before .before .before .before .place-powers .ensures) values
-                (lane-locator (l .loop .p) (a .planes) (2 * a .t) (a .t) (a .sums .now) (a .t4) (a .rows .now) (c .before .before .before .before .plane-of2 .result) inside (omega arith) d (c .before .before .before .before .plane-of2 .ensures))
-                j (omega arith),
-            λ j h. l .loop .inv .1 .others j (l .loop .p) (omega arith) (omega arith),
+                locator-values (l .loop .p) (a .t + 1) (a .n) (2 * a .t) (a .rows .now) (a .values .now) _ _ (omega (arith, inside o)) (l .before .place-powers .ensures) values
+                (lane-locator (l .loop .p) (a .planes) (2 * a .t) (a .t) (a .sums .now) (a .t4) (a .rows .now) (o .plane-of2 .result) (inside o) (omega arith) d (o .plane-of2 .ensures))
+                j (omega (arith, places-long o)),
+            λ j h. l .loop .inv .1 .others j (l .loop .p) (omega arith) (omega (arith, inside o)),
           ),
         ),
       ),
@@ -104,26 +127,26 @@ add-if1 : tie.Need-add-if1 Inv-loop μ-loop
 add-if1 c = omega arith
 
 slice-aggregate-count-wrong : tie.Need-slice-aggregate-count-wrong Inv-loop μ-loop
-slice-aggregate-count-wrong c = sym (c .before .before .weighted-errors .ensures .long ∙ c .before .before .before .before .before .before .before .before .before .before .loop .inv .1 .long)
+slice-aggregate-count-wrong c = let e = c .before .before in sym (e .weighted-errors .ensures .long ∙ turn (taken e) .loop .inv .1 .long)
 
 count-wrong-requires : tie.Need-count-wrong-requires Inv-loop μ-loop
 count-wrong-requires c κs =
-    (omega (arith, c .before .before .before .before .before .before .before .before .before .loop-test .taken), omega (arith, c .before .before .weighted-errors .ensures .long, c .before .before .before .before .before .before .before .before .before .before .loop .inv .1 .long))
+    let e = c .before .before in
+    let o = taken e in
+    let s = start (turn o) in
+    (omega (arith, inside o, s .pre .1 .0), omega (arith, e .weighted-errors .ensures .long, turn o .loop .inv .1 .long, s .pre .1 .0))
 
 returns : tie.Need-returns Inv-loop μ-loop
 unfolding settings check-count Counted-as
 returns c =
-    let s = c .before .before .before .before .before .before .before .before .before .before .before .before .before .before .before .before .before in
-    let l = c .before .before .before .before .before .before .before .before .before .before .before .before in
-    let a = s .args in
-    let inside = c .before .before .before .before .before .before .before .before .before .before .before .loop-test .taken in
-    let bounds = s .pre .1 .0 in
-    let w =
-    written-by (l .loop .p) (a .planes) (a .t) (a .n) (a .sums .now) (a .t4) (a .rows .now) (c .before .before .before .before .before .before .before .before .before .before .plane-of .result) (c .before .before .before .before .before .before .before .before .before .plane-of2 .result) (c .before .before .before .before .before .before .before .before .before .before .before .before .before .place-powers .result) _ _ inside
-    (omega arith) (omega arith) (s .pre .1 .1 .0) (c .before .before .before .before .before .before .before .before .before .before .plane-of .ensures) (c .before .before .before .before .before .before .before .before .before .plane-of2 .ensures) (c .before .before .before .before .weighted-errors .ensures)
-    (length-take-le (a .n + 2 * a .t) (c .before .before .before .before .before .before .before .before .before .before .before .before .before .place-powers .result) (omega (arith, c .before .before .before .before .before .before .before .before .before .before .before .before .before .place-powers .ensures .long))) in
-    let next = weighted-more (l .loop .p) (settings (a .n) (a .t) (a .planes)) (a .sums .now) _ _ _ (omega arith) (c .before .before .before .before .before .before .before .before .before .before .before .before .before .place-powers .ensures) (l .loop .inv .1) w in
-    (l .loop .p, inside, (_, next .located (l .loop .p) (omega arith), omega (arith, c .before .count-wrong .ensures .0)))
+    let e = c .before .before .before .before in
+    let o = taken e in
+    let l = turn o in
+    let s = start l in
+    let next =
+    weighted-more (s .args .n) (s .args .t) (inside o) (omega arith) (omega arith) (omega arith) (s .pre .1 .1 .0) (o .before .plane-of .ensures) (o .plane-of2 .ensures)
+    (l .before .place-powers .ensures) (places-long o) (e .weighted-errors .ensures) (l .loop .inv .1) in
+    (l .loop .p, inside o, (_, next .located (l .loop .p) (omega arith), omega (arith, c .before .count-wrong .ensures .0)))
 
 add-p : tie.Need-add-p Inv-loop μ-loop
 add-p c = omega arith
@@ -132,19 +155,17 @@ loop-less : tie.Need-loop-less Inv-loop μ-loop
 loop-less c = omega arith
 
 loop-again : tie.Need-loop-again Inv-loop μ-loop
-unfolding settings check-count
 loop-again c =
-    let s = c .before .before .before .before .before .before .before .before .before .before .before .before .before .before .before .before .before in
-    let l = c .before .before .before .before .before .before .before .before .before .before .before .before in
-    let a = s .args in
-    let inside = c .before .before .before .before .before .before .before .before .before .before .before .loop-test .taken in
-    let bounds = s .pre .1 .0 in
-    let w =
-    written-by (l .loop .p) (a .planes) (a .t) (a .n) (a .sums .now) (a .t4) (a .rows .now) (c .before .before .before .before .before .before .before .before .before .before .plane-of .result) (c .before .before .before .before .before .before .before .before .before .plane-of2 .result) (c .before .before .before .before .before .before .before .before .before .before .before .before .before .place-powers .result) _ _ inside
-    (omega arith) (omega arith) (s .pre .1 .1 .0) (c .before .before .before .before .before .before .before .before .before .before .plane-of .ensures) (c .before .before .before .before .before .before .before .before .before .plane-of2 .ensures) (c .before .before .before .before .weighted-errors .ensures)
-    (length-take-le (a .n + 2 * a .t) (c .before .before .before .before .before .before .before .before .before .before .before .before .before .place-powers .result) (omega (arith, c .before .before .before .before .before .before .before .before .before .before .before .before .before .place-powers .ensures .long))) in
-    let next = weighted-more (l .loop .p) (settings (a .n) (a .t) (a .planes)) (a .sums .now) _ _ _ (omega arith) (c .before .before .before .before .before .before .before .before .before .before .before .before .before .place-powers .ensures) (l .loop .inv .1) w in
-    (omega arith, next, counted-more (l .loop .p) (a .n + 2 * a .t) (a .t) _ _ _ (omega arith) w (omega (arith, c .before .count-wrong .ensures .0)) (l .loop .inv .2))
+    let e = c .before .before .before .before in
+    let o = taken e in
+    let l = turn o in
+    let s = start l in (
+      omega arith,
+      weighted-more (s .args .n) (s .args .t) (inside o) (omega arith) (omega arith) (omega arith) (s .pre .1 .1 .0) (o .before .plane-of .ensures) (o .plane-of2 .ensures)
+          (l .before .place-powers .ensures) (places-long o) (e .weighted-errors .ensures) (l .loop .inv .1),
+      counted-more (s .args .n) (s .args .t) (inside o) (omega arith) (omega arith) (omega arith) (s .pre .1 .1 .0) (o .before .plane-of .ensures) (o .plane-of2 .ensures)
+          (l .before .place-powers .ensures) (places-long o) (e .weighted-errors .ensures) (omega (arith, c .before .count-wrong .ensures .0)) (l .loop .inv .2),
+    )
 
 returns-2 : tie.Need-returns-2 Inv-loop μ-loop
 unfolding settings check-count Counted-as
