@@ -22,7 +22,10 @@ use Rattle.repair.proofs.repair.Statement.{statement}
 use Rattle.repair.proofs.repair.Tie as tie
 
 -- the lengths of a call that is not refused
-taken-up : (c : tie.Else1) → let a = c .before .before .before .before .before .args in Accepted (a .n) (a .t) (a .w) (length (a .vector .now)) (length (a .checks .now)) (length (a .output .now))
+abbrev start : tie.Else1 → tie.Start
+start c = c .before .before .before .before .before
+
+taken-up : (c : tie.Else1) → let a = start c .args in Accepted (a .n) (a .t) (a .w) (length (a .vector .now)) (length (a .checks .now)) (length (a .output .now))
 taken-up c = accepted _ _ _ _ _ _ (sym (c .before .refused .ensures) ∙ c .if1 .left)
 
 room : (n t w : ℕ) → settings-refusal (settings n t w) ≡ 0 → 2 * t * w ≤ checks-room
@@ -52,8 +55,10 @@ slice-aggregate-by-difference c =
 
 by-difference-requires : tie.Need-by-difference-requires
 by-difference-requires c κs =
-    let d = taken-up (c .before .before .before .before .before) in
-    let own = length-take-le (length (c .before .before .before .before .before .before .before .before .before .before .args .checks .now)) (c .before .before .before .check-values .last .1 .1 .1 .1 .0) (omega (arith, d .checks, room _ _ _ (d .allowed), c .before .before .before .check-values .kept .1 .1 .1 .1 .0)) in
+    let put = c .before .before .before in
+    let e = put .before .before in
+    let d = taken-up e in
+    let own = length-take-le (length (start e .args .checks .now)) (put .check-values .last .1 .1 .1 .1 .0) (omega (arith, d .checks, room _ _ _ (d .allowed), put .check-values .kept .1 .1 .1 .1 .0)) in
     (d .allowed, (d .vector, own ∙ d .checks, d .checks, d .room))
 
 same-length : tie.Need-same-length
@@ -62,19 +67,21 @@ same-length c = search needs
 returns-2 : tie.Need-returns-2
 unfolding By-own-checks
 returns-2 c =
-    let d = taken-up (c .before .before .before .before .before .before .before .before) in
-    let f = c .before .before .before .before .before .before .before .before .before .before .before .before .before in
-    let a = f .args in
+    let repaired = c .before .before in
+    let put = repaired .before .before .before .before in
+    let e = put .before .before in
+    let d = taken-up e in
+    let a = start e .args in
     let s = settings (a .n) (a .t) (a .w) in
-    let own = c .before .before .before .before .before .before .check-values in
-    repair-done (a .n) (a .t) (a .w) (a .vector .now) (a .checks .now) (a .output .now) _ _ (sym (c .before .before .before .before .before .before .before .before .before .refused .ensures) ∙ c .before .before .before .before .before .before .before .before .if1 .left)
+    let own = put .check-values in
+    repair-done (a .n) (a .t) (a .w) (a .vector .now) (a .checks .now) (a .output .now) _ _ (sym (e .before .refused .ensures) ∙ e .if1 .left)
     (by-own-checks s (values-in s (a .n) (a .vector .now)) (values-in s (2 * a .t) (take (length (a .checks .now)) (own .last .1 .1 .1 .1 .0)))
     (values-in s (2 * a .t) (a .checks .now)) _ _ _
-    (is-vector-in (a .n) (a .t) (a .w) (a .vector .now) (d .vector) (bytes-every (a .vector .now) (λ i. c .before .before .before .before .before .before .before .before .before .before .before .before .shared-slice-known .given i .fits)))
+    (is-vector-in (a .n) (a .t) (a .w) (a .vector .now) (d .vector) (bytes-every (a .vector .now) (λ i. e .before .before .before .before .shared-slice-known .given i .fits)))
     (subst (λ (k : ℕ). has-checks s (values-in s (a .n) (a .vector .now)) (values-in s (2 * a .t) (take k (own .last .1 .1 .1 .1 .0))) ≡ true) (sym (d .checks))
     (own-checks (a .n) (a .t) (a .w) _ (a .vector .now) _ _ (d .allowed) (d .vector) (room (a .n) (a .t) (a .w) (d .allowed)) (own .ensures)))
-    (are-checks-in (a .n) (a .t) (a .w) (a .checks .now) (d .checks) (bytes-every (a .checks .now) (λ i. c .before .before .before .before .before .before .before .before .before .before .before .shared-slice-known2 .given i .fits)))
-    (c .before .before .by-difference .ensures))
+    (are-checks-in (a .n) (a .t) (a .w) (a .checks .now) (d .checks) (bytes-every (a .checks .now) (λ i. e .before .before .before .shared-slice-known2 .given i .fits)))
+    (repaired .by-difference .ensures))
 
 pub repair-spec : {M : Type 1} → statement M
 repair-spec =

@@ -16,24 +16,29 @@ Inv-loop powers logarithms constant value errors output₀ p₀ output p = (p �
 abbrev μ-loop : tie.MeasureT-loop
 μ-loop powers logarithms constant value errors output₀ p₀ output p = length output₀ - p
 
+abbrev start : tie.After-any-of Inv-loop μ-loop → tie.Start Inv-loop μ-loop
+start a = a .before .before .before .before
+
 any-of-requires : tie.Need-any-of-requires Inv-loop μ-loop
 any-of-requires c κs = omega (arith, c .before .before .before .pre .1)
 
 copy-value-requires : tie.Need-copy-value-requires Inv-loop μ-loop
-copy-value-requires c κs = let p = c .before .before .before .before .before .before .pre .1 in (omega (arith, p), omega arith)
+copy-value-requires c κs = let p = start (c .before .before) .pre .1 in (omega (arith, p), omega arith)
 
 same-length : tie.Need-same-length Inv-loop μ-loop
 same-length c = c .before .before .copy-value .ensures .long
 
 returns : tie.Need-returns Inv-loop μ-loop
 returns c =
-    let s = c .before .before .before .before .before .before .before .before .before in
+    let copied = c .before .before in
+    let tested = copied .before .before .before in
+    let s = start tested in
     value-kept (s .args .constant) (s .args .value .now) (s .args .errors .now) (s .args .output .now) _ (s .fits .constant .fits) (s .pre .1 .0) (s .pre .1 .1)
-    (λ i. c .before .before .before .before .before .before .before .before .shared-slice-known .given i .fits)
-    (c .before .before .before .before .before .any-of .ensures .none (c .before .before .before .before .if1 .taken)) (c .before .before .copy-value .ensures)
+    (λ i. tested .before .before .before .shared-slice-known .given i .fits)
+    (tested .any-of .ensures .none (copied .before .before .if1 .taken)) (copied .copy-value .ensures)
 
 loop-holds : tie.Need-loop-holds Inv-loop μ-loop
-loop-holds c = (omega arith, filled-none _ _ (c .before .before .before .before .before .args .output .now) refl)
+loop-holds c = (omega arith, filled-none _ _ (start (c .before) .args .output .now) refl)
 
 shared-slice-read-sum : tie.Need-shared-slice-read-sum Inv-loop μ-loop
 shared-slice-read-sum c = omega arith
@@ -42,7 +47,7 @@ shared-slice-read-product-by : tie.Need-shared-slice-read-product-by Inv-loop μ
 shared-slice-read-product-by c = omega arith
 
 product-by-requires : tie.Need-product-by-requires Inv-loop μ-loop
-product-by-requires c κs = c .before .before .before .before .before .before .before .before .before .pre .0
+product-by-requires c κs = let l = c .before .before .before in start (l .before .before) .pre .0
 
 sum-requires : tie.Need-sum-requires Inv-loop μ-loop
 sum-requires c κs = tt

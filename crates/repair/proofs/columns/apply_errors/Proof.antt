@@ -102,14 +102,15 @@ loop-less c = omega arith
 
 loop-again : tie.Need-loop-again Inv-loop μ-loop
 loop-again c =
-    let t = c .before .before .before .before .before .before in
+    let added = c .before .before in
+    let t = added .before .before .before .before in
     let l = t .before .loop in
     let s = start (t .before) in (
       omega arith,
       mended-more (l .k) (l .at) (s .args .size) _ (s .args .vector .now) (s .args .weighted .now) (s .args .output .now) (l .output) _ (l .inv .1) (omega arith)
           (s .pre .1 .0 .1) (omega (arith, room t)) (omega arith) (omega (arith, room t)) (t .before .before .inverse-weights .ensures .new (l .k) (omega arith))
           (bytes-every (s .args .vector .now) (λ i. t .before .before .before .before .before .shared-slice-known .given i .fits))
-          (c .before .before .add-errors .ensures),
+          (added .add-errors .ensures),
     )
 
 same-length : tie.Need-same-length Inv-loop μ-loop

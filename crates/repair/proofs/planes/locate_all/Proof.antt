@@ -14,6 +14,13 @@ Inv-loop powers logarithms sums count t size sizes₀ rows₀ p₀ sizes rows p 
 abbrev μ-loop : tie.MeasureT-loop
 μ-loop powers logarithms sums count t size sizes₀ rows₀ p₀ sizes rows p = size - p
 
+-- the ways back: from the locator to the turn, from the turn to the start
+abbrev turn : tie.After-locate Inv-loop μ-loop → tie.In-loop Inv-loop μ-loop
+turn o = o .before .before .before
+
+abbrev start : tie.In-loop Inv-loop μ-loop → tie.Start Inv-loop μ-loop
+start i = i .before .before .before
+
 loop-holds : tie.Need-loop-holds Inv-loop μ-loop
 loop-holds c = (omega arith, locators-none _ _ _ _ _ refl refl refl)
 
@@ -28,21 +35,23 @@ slice-aggregate-locate c = sym (length-take-le _ _ (omega (arith, c .before .pla
 
 locate-requires : tie.Need-locate-requires Inv-loop μ-loop
 locate-requires c κs =
-    let s = c .before .before .before .before .before in
+    let s = start (c .before .before) in
     let long = length-take-le (s .args .count) (c .before .plane-of .result) (omega (arith, c .before .plane-of .ensures .long)) in
     (s .pre .0, (omega arith, omega arith))
 
 returns : tie.Need-returns Inv-loop μ-loop
 returns c =
-    let s = c .before .before .before .before .before .before .before in
-    locators-refused _ _ _ _ _ _ _ _ (c .before .before .before .before .loop-test .taken) (c .if1 .taken)
-    (taken-locator _ (s .args .count) _ _ _ (omega arith) (c .before .before .before .plane-of .ensures) (c .before .locate .ensures))
+    let o = c .before in
+    let i = turn o in
+    let s = start i in
+    locators-refused _ _ _ _ _ _ _ _ (i .loop-test .taken) (c .if1 .taken)
+    (taken-locator _ (s .args .count) _ _ _ (omega arith) (o .before .before .plane-of .ensures) (o .locate .ensures))
 
 add-end : tie.Need-add-end Inv-loop μ-loop
 add-end c = omega arith
 
 slice-aggregate-put-plane : tie.Need-slice-aggregate-put-plane Inv-loop μ-loop
-slice-aggregate-put-plane c = omega (arith, c .before .before .before .before .before .before .before .loop .inv .1 .long)
+slice-aggregate-put-plane c = let o = c .before .before .before in omega (arith, turn o .before .loop .inv .1 .long)
 
 array-share-prefix-locator : tie.Need-array-share-prefix-locator Inv-loop μ-loop
 array-share-prefix-locator c = omega (arith, c .before .before .before .locate .ensures .locator .long, c .before .before .if1 .left)
@@ -52,15 +61,17 @@ slice-aggregate-put-plane-2 c = sym (length-take-le _ _ (omega (arith, c .before
 
 put-plane-requires : tie.Need-put-plane-requires Inv-loop μ-loop
 put-plane-requires c κs =
-    let r = c .before .before .before .before .locate in
-    let long = length-take-le (r .result .size + 1) (r .result .locator) (omega (arith, r .ensures .locator .long, c .before .before .before .if1 .left)) in
-    (omega (arith, c .before .before .before .before .before .before .before .loop-test .taken), omega (arith, c .before .before .before .if1 .left), omega (arith, c .before .before .before .before .before .before .before .before .loop .inv .1 .long, c .before .before .before .if1 .left))
+    let passed = c .before .before .before in
+    let i = turn (passed .before) in
+    let r = passed .before .locate in
+    let long = length-take-le (r .result .size + 1) (r .result .locator) (omega (arith, r .ensures .locator .long, passed .if1 .left)) in
+    (omega (arith, i .loop-test .taken), omega (arith, passed .if1 .left), omega (arith, i .before .loop .inv .1 .long, passed .if1 .left))
 
 mul-sizes : tie.Need-mul-sizes Inv-loop μ-loop
 mul-sizes c = omega arith
 
 array-write-sizes : tie.Need-array-write-sizes Inv-loop μ-loop
-array-write-sizes c = omega (arith, c .before .before .before .before .before .before .before .before .before .loop-test .taken)
+array-write-sizes c = let passed = c .before .before .before .before .before in omega (arith, turn (passed .before) .loop-test .taken)
 
 add-p : tie.Need-add-p Inv-loop μ-loop
 add-p c = omega arith
@@ -70,11 +81,13 @@ loop-less c = omega arith
 
 loop-again : tie.Need-loop-again Inv-loop μ-loop
 loop-again c =
-    let l = c .before .before .before .before .before .before .before .before .before .before in
-    let s = l .before .before in (
-      omega (arith, c .before .before .before .before .before .before .before .before .before .loop-test .taken),
-      locators-more _ _ _ _ _ _ _ (c .before .before .before .before .before .before .locate .result) (omega (arith, c .before .before .before .before .before .before .before .before .before .loop-test .taken)) (omega arith) (c .before .before .before .before .before .if1 .left)
-          (taken-locator _ (s .args .count) _ _ _ (omega arith) (c .before .before .before .before .before .before .before .before .plane-of .ensures) (c .before .before .before .before .before .before .locate .ensures)) (l .loop .inv .1) (c .before .put-plane .ensures),
+    let passed = c .before .before .before .before .before in
+    let o = passed .before in
+    let i = turn o in
+    let s = start i in (
+      omega (arith, i .loop-test .taken),
+      locators-more _ _ _ _ _ _ _ (o .locate .result) (omega (arith, i .loop-test .taken)) (omega arith) (passed .if1 .left)
+          (taken-locator _ (s .args .count) _ _ _ (omega arith) (o .before .before .plane-of .ensures) (o .locate .ensures)) (i .before .loop .inv .1) (c .before .put-plane .ensures),
     )
 
 returns-2 : tie.Need-returns-2 Inv-loop μ-loop

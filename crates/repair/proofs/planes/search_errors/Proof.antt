@@ -1,12 +1,25 @@
 -- `search_errors` meets its contract: locators, errors and what they leave, each with its own way to fail. Assumes nothing.
 use mathlib.Core.Path.{refl}
+use Prim.Native.Nat.{_*_}
 use native.Mathlib.Omega.{arith}
 use borrow.Author.Tests.{not-true, not-false}
 use Rattle.code.specs.Settings.{settings, check-count}
+use Rattle.repair.specs.Steps.Planes.{Locators}
 use Rattle.repair.proofs.PlaneDecoder.{all-located, not-located, all-evaluated, all-counted, not-counted, searched}
 use borrow.Author.Needs.{needs}
 use Rattle.repair.proofs.planes.search_errors.Statement.{statement}
 use Rattle.repair.proofs.planes.search_errors.Tie as tie
+
+-- the ways back: from the errors to the longest locator, from there to the start
+abbrev longest-of : tie.After-errors-at-places → tie.After-longest
+longest-of e = e .before .before .before .before .before
+
+abbrev start : tie.After-longest → tie.Start
+start l = let o = l .before .before .before .before .before in o .before .before
+
+-- all planes have a locator
+locators : (l : tie.After-longest) → let a = start l .args in let r = l .before .before .before .before .before .locate-all .result in Locators (a .planes) (2 * a .t) (a .t) (a .sums .now) (r .sizes) (r .rows)
+locators l = all-located _ _ _ _ _ _ _ (not-false _ (l .before .before .before .if1 .left)) (l .before .before .before .before .before .locate-all .ensures)
 
 mul-count : tie.Need-mul-count
 mul-count c = search needs
@@ -25,13 +38,13 @@ slice-aggregate-evaluate-all : tie.Need-slice-aggregate-evaluate-all
 slice-aggregate-evaluate-all c = search needs
 
 add-evaluate-all : tie.Need-add-evaluate-all
-add-evaluate-all c = let l = c .before in let s = l .before .before .before .before .before .before .before in omega (arith, l .longest .ensures .least (s .args .t) (all-located _ _ _ _ _ _ _ (not-false _ (l .before .before .before .if1 .left)) (l .before .before .before .before .before .locate-all .ensures) .small))
+add-evaluate-all c = let l = c .before in omega (arith, l .longest .ensures .least (start l .args .t) (locators l .small))
 
 evaluate-all-requires : tie.Need-evaluate-all-requires
 evaluate-all-requires c κs =
     let l = c .before in
-    let s = l .before .before .before .before .before .before .before in
-    let d = all-located _ _ _ _ _ _ _ (not-false _ (l .before .before .before .if1 .left)) (l .before .before .before .before .before .locate-all .ensures) in
+    let s = start l in
+    let d = locators l in
     let most = l .longest .ensures .least (s .args .t) (d .small) in
     (s .pre .0 .0, omega (arith, d .long), omega arith, omega arith)
 
@@ -44,8 +57,8 @@ slice-aggregate-errors-at-places-2 c = search needs
 errors-at-places-requires : tie.Need-errors-at-places-requires
 errors-at-places-requires c κs =
     let l = c .before .before .before .before in
-    let s = l .before .before .before .before .before .before .before in
-    let d = all-located _ _ _ _ _ _ _ (not-false _ (l .before .before .before .if1 .left)) (l .before .before .before .before .before .locate-all .ensures) in (
+    let s = start l in
+    let d = locators l in (
       s .pre .0,
       (
         (s .pre .1 .0 .0, s .pre .1 .0 .1, s .pre .1 .0 .2, s .pre .1 .0 .3, omega arith),
@@ -61,16 +74,18 @@ slice-aggregate-leaves-nothing c = search needs
 
 leaves-nothing-requires : tie.Need-leaves-nothing-requires
 leaves-nothing-requires c κs =
-    let s = c .before .before .before .before .before .before .before .before .before .before .before .before .before .before .before .before in
-    let d = all-counted _ _ _ _ _ (not-false _ (c .before .before .if2 .left)) (c .before .before .before .before .errors-at-places .ensures) in
+    let e = c .before .before .before .before in
+    let s = start (longest-of e) in
+    let d = all-counted _ _ _ _ _ (not-false _ (c .before .before .if2 .left)) (e .errors-at-places .ensures) in
     (s .pre .0 .0, omega arith, omega arith, omega arith, omega (arith, d .errors .long))
 
 returns-3 : tie.Need-returns-3
 unfolding settings check-count
 returns-3 c =
-    let s = c .before .before .before .before .before .before .before .before .before .before .before .before .before .before .before .before .before in
+    let e = c .before .before .before .before .before in
+    let s = start (longest-of e) in
     searched _ _ (settings (s .args .n) (s .args .t) (s .args .planes)) _ _ (omega arith) (s .pre .1 .1)
-    (all-counted _ _ _ _ _ (not-false _ (c .before .before .before .if2 .left)) (c .before .before .before .before .before .errors-at-places .ensures))
+    (all-counted _ _ _ _ _ (not-false _ (c .before .before .before .if2 .left)) (e .errors-at-places .ensures))
     (c .leaves-nothing .ensures (settings (s .args .n) (s .args .t) (s .args .planes)) refl refl)
 
 pub search-errors-spec : {M : Type 1} → statement M
