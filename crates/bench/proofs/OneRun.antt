@@ -14,8 +14,8 @@ use Rattle.code.specs.Settings.{Settings, settings-refusal, check-count, value-
 use Rattle.code.specs.Vector.{has-checks, glued, cut}
 use Rattle.code.specs.Entry.{values-in}
 use Rattle.code.specs.Promise.{Checks-there}
-use Rattle.code.proofs.Checks.{checks-there}
-use Rattle.code.proofs.Cut.{glued-cut}
+use Rattle.code.proofs.Vectors.Checks.{checks-there}
+use Rattle.code.proofs.Vectors.Cut.{glued-cut}
 use Rattle.grading.specs.Value.{Value, Vector}
 use Rattle.record.specs.Frame.{operand-size, frame-size, operand-in, checks-in}
 use Rattle.record.specs.Record.{Rec, opened}

@@ -12,7 +12,8 @@ use Rattle.code.specs.Settings.{settings, value-size}
 use Rattle.code.specs.Size.{most-columns, value-room, vector-room}
 use Rattle.code.specs.Vector.{cut}
 use Rattle.code.specs.Entry.{values-in}
-use Rattle.code.proofs.Cut.{value-fits, values-fit}
+use Rattle.code.proofs.Vectors.Cut.{value-fits}
+use Rattle.code.proofs.ValidSettings.{values-fit}
 use Rattle.grading.specs.Value.{Value, is-blank, entries}
 use Rattle.grading.specs.Held.{Held, held-as, held-in}
 use Rattle.counting.proofs.Placed.{cut-at}

@@ -9,7 +9,7 @@ use native.Mathlib.Nat.{eq-or-lt-of-le}
 use native.Mathlib.Omega.{arith}
 use lib.ListN.{length}
 use borrow.Author.Tests.{ne-eqb}
-use Rattle.code.proofs.Bytes.{and-both}
+use Rattle.code.proofs.Lists.Tests.{and-both}
 use Rattle.grading.specs.Promise.{member, all-different}
 use Rattle.grading.proofs.Bool.{true-not-false}
 use Rattle.gradecast.specs.Promise.{Good, numbers, Among, first, other}

@@ -10,7 +10,7 @@ use lib.Dec.{eqb}
 use borrow.Author.Tests.{eqb-true}
 use borrow.Author.Count.{below-more}
 use lib.Seq.{getD-set-same, getD-set-other}
-use Rattle.code.proofs.Bytes.{and-split}
+use Rattle.code.proofs.Lists.Tests.{and-split}
 use Rattle.code.specs.Steps.Array.{Filled, Written}
 
 -- an array as it is made, all zero

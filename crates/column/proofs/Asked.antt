@@ -10,7 +10,7 @@ use Rattle.code.specs.Settings.{Settings, value-size}
 use Rattle.code.specs.Size.{most-columns, vector-room}
 use Rattle.code.specs.Vector.{cut, glued}
 use Rattle.code.specs.Entry.{values-in, in-front, padded}
-use Rattle.code.proofs.Cut.{cut-length, glued-cut}
+use Rattle.code.proofs.Vectors.Cut.{cut-length, glued-cut}
 use Rattle.grading.specs.Value.{Vector, entries}
 use Rattle.grading.specs.Held.{held-as, held-in, held-values}
 use Rattle.counting.specs.Stored.{Stores-held}

@@ -13,8 +13,8 @@ use borrow.Author.Tests.{eqb-true, eqb-false}
 use Rattle.code.specs.Settings.{Settings, settings-refusal, check-count, value-size}
 use Rattle.code.specs.Vector.{has-checks, glued}
 use Rattle.code.specs.Entry.{values-in, in-front}
-use Rattle.code.proofs.Cut.{cut-length, glued-cut}
-use Rattle.code.proofs.Vector.{checks-unique}
+use Rattle.code.proofs.Vectors.Cut.{cut-length, glued-cut}
+use Rattle.code.proofs.Vectors.Planes.{checks-unique}
 use Rattle.record.specs.Frame.{header-size, operand-size, frame-size, operand-in, checks-in}
 use Rattle.record.specs.Record.{Who, Found, Rec, who-as}
 use Rattle.record.specs.Refusal.{record-refusal, take-refusal, send-refusal, close-refusal}

@@ -11,8 +11,8 @@ use borrow.Author.Tests.{le-ltb, le-leb, lt-leb, eq-eqb, eqb-true}
 use Rattle.code.specs.Settings.{Settings, settings, value-size}
 use Rattle.code.specs.Size.{value-room}
 use Rattle.code.specs.Vector.{same}
-use Rattle.code.proofs.Bytes.{and-split}
-use Rattle.code.proofs.Vector.{same-equal}
+use Rattle.code.proofs.Lists.Tests.{and-split}
+use Rattle.code.proofs.Vectors.Planes.{same-equal}
 use Rattle.grading.specs.Value.{Value, Rows, blank, is-blank, bytes-before}
 use Rattle.grading.specs.Held.{Held, held-as}
 use Rattle.counting.specs.Stored.{Stores-value}

@@ -14,7 +14,7 @@ use Rattle.code.specs.Size.{most-columns, vector-room}
 use Rattle.code.specs.Vector.{cut, glued}
 use Rattle.code.specs.Entry.{values-in, in-front, padded}
 use Rattle.code.specs.Steps.Array.{Written}
-use Rattle.code.proofs.Cut.{cut-length, value-fits, next-value, in-front-cut}
+use Rattle.code.proofs.Vectors.Cut.{cut-length, value-fits, next-value, in-front-cut}
 use Rattle.grading.specs.Value.{Value, entries}
 use Rattle.grading.specs.Held.{Held, held-as, held-in, held-values, held-confidences}
 use Rattle.counting.specs.Stored.{Stores, Stores-held}

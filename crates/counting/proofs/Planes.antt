@@ -14,7 +14,7 @@ use borrow.Author.Tests.{eqb-true, eqb-false}
 use Rattle.code.specs.Size.{most-columns, value-room}
 use Rattle.code.specs.Vector.{plane, same, cut}
 use Rattle.code.specs.Entry.{padded}
-use Rattle.code.proofs.Cut.{plane-cut, plane-cut-length}
+use Rattle.code.proofs.Vectors.Cut.{plane-cut, plane-cut-length}
 use Rattle.grading.specs.Value.{Value, Rows, entries}
 use Rattle.grading.specs.Count.{found, better, most-from}
 use Rattle.counting.specs.Steps.Table.{Planes, byte-in, value-in, row-in, rows-in, Shaped, Row-put}

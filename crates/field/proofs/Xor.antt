@@ -101,6 +101,9 @@ plus-swap a b c d =
 pub plus-back : (a b : ℕ) → a < 256 → plus (plus a b) b ≡ a
 plus-back a b h = plus-assoc a b b ∙ ap (plus a) (plus-self b) ∙ plus-zero a h
 
+pub plus-again : (a b : ℕ) → b < 256 → plus a (plus a b) ≡ b
+plus-again a b h = plus-comm a (plus a b) ∙ ap (λ (z : ℕ). plus z a) (plus-comm a b) ∙ plus-back b a h
+
 -- a sum is 0 only where its terms are equal
 pub equal-of-plus-zero : (a b : ℕ) → a < 256 → b < 256 → plus a b ≡ 0 → a ≡ b
 equal-of-plus-zero a b h l e = sym (plus-back a b h) ∙ ap (λ (x : ℕ). plus x b) e ∙ zero-plus b l

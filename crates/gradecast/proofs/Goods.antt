@@ -7,7 +7,7 @@ use Prim.Native.Nat.{ℕ, suc}
 use lib.Dec.{eqb}
 use lib.ListN.{length}
 use borrow.Author.Tests.{eqb-true, eq-eqb, ne-eqb, not-true}
-use Rattle.code.proofs.Bytes.{and-split}
+use Rattle.code.proofs.Lists.Tests.{and-split}
 use Rattle.grading.specs.Promise.{member, all-different}
 use Rattle.gradecast.specs.Promise.{Good, numbers, Among, first, other}
 use Rattle.grading.proofs.Bool.{true-not-false}

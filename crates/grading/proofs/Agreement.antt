@@ -11,7 +11,7 @@ use native.Mathlib.Omega.{arith}
 use lib.ListN.{length, getD}
 use Rattle.code.specs.Settings.{Settings}
 use Rattle.code.specs.Vector.{same, differ-values}
-use Rattle.code.proofs.Vector.{same-equal}
+use Rattle.code.proofs.Vectors.Planes.{same-equal}
 use Rattle.grading.specs.Value.{Value, Vector, Rows, is-blank}
 use Rattle.grading.specs.Held.{held-as}
 use Rattle.grading.specs.Count.{found, most, agreed-least, sure-least, likely-least, agreed-at, held-of, held-at}

@@ -11,8 +11,8 @@ use lib.Dec.{eqb}
 use lib.ListN.{length, getD}
 use borrow.Author.Tests.{eqb-true, eqb-false, eq-eqb, not-true}
 use Rattle.code.specs.Vector.{same, differ-values}
-use Rattle.code.proofs.Bytes.{and-split}
-use Rattle.code.proofs.Vector.{same-equal}
+use Rattle.code.proofs.Lists.Tests.{and-split}
+use Rattle.code.proofs.Vectors.Planes.{same-equal}
 use Rattle.grading.specs.Value.{Value, Vector, Rows}
 use Rattle.grading.specs.Count.{found}
 use Rattle.grading.proofs.Bool.{true-not-false, or-true-left, or-true-right, count-le}

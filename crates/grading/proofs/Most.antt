@@ -11,8 +11,8 @@ use lib.ListN.{length, getD}
 use borrow.Author.Tests.{eqb-true, eqb-false, ltb-true, ltb-false, not-true}
 use Rattle.code.specs.Settings.{Settings}
 use Rattle.code.specs.Vector.{same}
-use Rattle.code.proofs.Bytes.{and-split}
-use Rattle.code.proofs.Vector.{same-equal}
+use Rattle.code.proofs.Lists.Tests.{and-split}
+use Rattle.code.proofs.Vectors.Planes.{same-equal}
 use Rattle.grading.specs.Value.{Value, Rows, blank, is-blank, bytes-before}
 use Rattle.grading.specs.Count.{found, better, most-from, most}
 use Rattle.grading.proofs.Bool.{true-not-false}

@@ -9,7 +9,7 @@ use lib.IntN.{ℤ, pos, _-ℤ_}
 use lib.ListN.{length, take}
 use borrow.Author.Tests.{lt-ltb, le-ltb, eq-eqb, ne-eqb}
 use Rattle.code.specs.Settings.{settings, value-size}
-use Rattle.code.proofs.Word.{Sizes, sizes}
+use Rattle.code.proofs.ValidSettings.{Sizes, sizes}
 use Rattle.grading.specs.Held.{held-in}
 use Rattle.record.specs.Record.{Rec, who-as}
 use Rattle.record.specs.Refusal.{ask-refusal}

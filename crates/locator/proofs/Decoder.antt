@@ -12,13 +12,13 @@ use Rattle.field.proofs.Times.{times-lt}
 use Rattle.code.specs.Settings.{Settings, settings-refusal, check-count}
 use Rattle.code.specs.Plane.{syndrome}
 use Rattle.code.specs.Repair.{Near}
-use Rattle.code.proofs.Bytes.{Bytes, bytes-zeros}
-use Rattle.code.proofs.Word.{Shape}
+use Rattle.code.proofs.Lists.Bytes.{Bytes, bytes-zeros}
+use Rattle.code.proofs.Codewords.Word.{Shape}
 use Rattle.locator.specs.Locator.{massey}
 use Rattle.locator.specs.Errors.{error-byte, mended, Located, Explained, Near-errors, Error-bytes}
-use Rattle.locator.proofs.Mended.{mended-length, mended-at}
-use Rattle.locator.proofs.Sound.{explained-near}
-use Rattle.locator.proofs.Complete.{near-size, near-explained}
+use Rattle.locator.proofs.Errors.Mended.{mended-length, mended-at}
+use Rattle.locator.proofs.Decoding.Sound.{explained-near}
+use Rattle.locator.proofs.Decoding.Complete.{near-size, near-explained}
 
 -- zero bytes with their errors added are the errors
 pub mended-zeros : (s : Settings) (ys es : List ℕ) → s .n ≤ length ys → Error-bytes s ys es → es ≡ mended s 0 (replicate (s .n) 0) (take (s .n) ys)

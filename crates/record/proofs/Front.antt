@@ -14,7 +14,7 @@ use borrow.Rule.Slice.PartMut.{putMid}
 use Rattle.code.specs.Settings.{settings, settings-refusal, check-count, value-size}
 use Rattle.code.specs.Vector.{cut, glued, has-checks}
 use Rattle.code.specs.Entry.{values-in, in-front, checks-refusal, Checks-put, Checks-as, Checks-says}
-use Rattle.code.proofs.Vector.{Values, checked-of}
+use Rattle.code.proofs.Vectors.Planes.{Values, checked-of}
 use Rattle.record.specs.Frame.{operand-in, checks-in}
 
 -- header and operand

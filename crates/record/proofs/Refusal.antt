@@ -10,7 +10,7 @@ use lib.Dec.{eqb, ltb, leb}
 use lib.ListN.{length}
 use borrow.Author.Tests.{eqb-true, eqb-false, leb-true, eq-eqb, ne-eqb, le-leb, lt-leb, le-ltb, not-false}
 use Rattle.code.specs.Settings.{Settings, settings-refusal}
-use Rattle.code.proofs.Bytes.{and-split, and-both}
+use Rattle.code.proofs.Lists.Tests.{and-split, and-both}
 use Rattle.grading.specs.Value.{Value, is-blank}
 use Rattle.grading.proofs.Bool.{or-false}
 use Rattle.record.specs.Frame.{frame-size, round-in, sender-in, run-in}

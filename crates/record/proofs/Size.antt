@@ -6,7 +6,7 @@ use native.Mathlib.Nat.{mul-le-mul}
 use native.Mathlib.Omega.{arith}
 use lib.Dec.{eqb}
 use Rattle.code.specs.Settings.{Settings, settings-refusal, check-count, value-size}
-use Rattle.code.proofs.Word.{sizes}
+use Rattle.code.proofs.ValidSettings.{sizes}
 use Rattle.record.specs.Frame.{operand-size, frame-size}
 
 pub checks-fit : (t w : ℕ) → t ≤ 10 → w ≤ 8 → 2 * t * w ≤ 160

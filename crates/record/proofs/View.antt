@@ -13,7 +13,7 @@ use borrow.Author.Tests.{eq-eqb, ne-eqb, lt-ltb}
 use Rattle.code.specs.Settings.{Settings, settings, value-size}
 use Rattle.code.specs.Size.{most-columns, value-room}
 use Rattle.code.specs.Entry.{values-in, padded}
-use Rattle.code.proofs.Word.{sizes}
+use Rattle.code.proofs.ValidSettings.{sizes}
 use Rattle.grading.specs.Value.{Value}
 use Rattle.grading.specs.Held.{held-in}
 use Rattle.record.specs.Frame.{header-size, longest-frame, operand-size, frame-size, operand-in}

@@ -18,20 +18,21 @@ use Rattle.code.specs.Plane.{syndrome, is-codeword}
 use Rattle.code.specs.Vector.{plane, cut, glued}
 use Rattle.code.specs.Entry.{values-in, in-front}
 use Rattle.code.specs.Steps.Lanes.{in-row, lane}
-use Rattle.code.proofs.Bytes.{Bytes, bytes-zeros}
-use Rattle.code.proofs.Cut.{cut-length, cut-values, glued-cut}
-use Rattle.code.proofs.Lane.{lane-length, lane-at, lane-zeros, lane-bytes}
-use Rattle.code.proofs.Near.{differ-self}
-use Rattle.code.proofs.Vector.{Values, plane-length, plane-bytes, vector-back}
-use Rattle.code.proofs.Word.{sizes, word-back}
+use Rattle.code.proofs.Lists.Bytes.{Bytes, bytes-zeros}
+use Rattle.code.proofs.Vectors.Cut.{cut-length, cut-values, glued-cut}
+use Rattle.code.proofs.Vectors.Lane.{lane-length, lane-at, lane-zeros, lane-bytes}
+use Rattle.code.proofs.Codewords.Near.{differ-self}
+use Rattle.code.proofs.Vectors.Planes.{Values, plane-length, plane-bytes, vector-back}
+use Rattle.code.proofs.ValidSettings.{sizes}
+use Rattle.code.proofs.Codewords.Word.{word-back}
 use Rattle.locator.specs.Errors.{mended}
 use Rattle.repair.specs.Difference.{plus-values, zeros}
 use Rattle.repair.specs.Entry.{Done-by, none-found}
 use Rattle.sums.specs.Rows.{Values-added, Check-sums, Zeros-as}
 use Rattle.repair.specs.Steps.Columns.{column-errors}
 use Rattle.repair.specs.Steps.Planes.{Decoded-as}
-use Rattle.sums.proofs.CheckRows.{values-lane, spare-lane}
-use Rattle.sums.proofs.CheckSums.{syndrome-zeros, summed-zeros, check-sums-syndrome, check-sums-spare}
+use Rattle.sums.proofs.Sums.CheckRows.{values-lane, spare-lane}
+use Rattle.sums.proofs.Sums.CheckSums.{syndrome-zeros, summed-zeros, check-sums-syndrome, check-sums-spare}
 use Rattle.locator.proofs.Decoder.{mended-zeros}
 use Rattle.repair.proofs.Located.{column-errors-vector, column-errors-plane}
 use Rattle.repair.proofs.OwnVector.{plane-plus, plane-zeros, plus-values-length, plus-values-values}

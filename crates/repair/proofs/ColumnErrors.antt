@@ -18,13 +18,13 @@ use Rattle.code.specs.Steps.Array.{Filled, Written}
 use Rattle.code.specs.Polynomial.{first-exponent, added, scaled}
 use Rattle.code.specs.Vector.{cut, glued}
 use Rattle.code.specs.Entry.{in-front}
-use Rattle.code.proofs.Bytes.{Bytes, bytes-take, bytes-drop}
-use Rattle.code.proofs.Polynomial.{getD-added, getD-scaled, length-added, length-scaled, bytes-scaled}
-use Rattle.code.proofs.Cut.{next-value, cut-length}
+use Rattle.code.proofs.Lists.Bytes.{Bytes, bytes-take, bytes-drop}
+use Rattle.code.proofs.Polynomials.Arithmetic.{getD-added, getD-scaled, length-added, length-scaled, bytes-scaled}
+use Rattle.code.proofs.Vectors.Cut.{next-value, cut-length}
 use Rattle.repair.specs.Difference.{plus-values}
 use Rattle.repair.specs.Steps.Columns.{column-errors}
-use Rattle.code.proofs.Part.{part-long}
-use Rattle.sums.proofs.PlacePowers.{weight-inverse}
+use Rattle.code.proofs.Lists.Part.{part-long}
+use Rattle.sums.proofs.AllPlaces.Powers.{weight-inverse}
 
 -- one more value
 cut-more : (k w : ℕ) (bs : List ℕ) → cut (suc k) w bs ≡ cut k w bs ++ (take w (drop (k * w) bs) ∷ [])

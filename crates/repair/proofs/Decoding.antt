@@ -10,10 +10,10 @@ use Rattle.code.specs.Size.{row-width, place-rows}
 use Rattle.code.specs.Settings.{Settings, settings-refusal, check-count}
 use Rattle.code.specs.Plane.{syndrome}
 use Rattle.code.specs.Steps.Lanes.{in-row, lane}
-use Rattle.code.proofs.Lane.{lane-length, lane-at, lane-bytes, lane-zeros}
+use Rattle.code.proofs.Vectors.Lane.{lane-length, lane-at, lane-bytes, lane-zeros}
 use Rattle.locator.proofs.Decoder.{sound, complete-size, complete}
 use Rattle.sums.specs.Rows.{Check-sums}
-use Rattle.sums.proofs.CheckSums.{check-sums-syndrome, check-sums-spare}
+use Rattle.sums.proofs.Sums.CheckSums.{check-sums-syndrome, check-sums-spare}
 use Rattle.repair.specs.Steps.Planes.{plane-sums, Explains, Searched-as, Decoded-as}
 
 module _ (s : Settings) (planes : ℕ) (difference sums : List ℕ) (allowed : settings-refusal s ≡ 0) (bytes : (i : ℕ) → getD difference i 0 < 256) (summed : Check-sums (check-count s) (check-count s) difference sums) (small : planes ≤ row-width) where

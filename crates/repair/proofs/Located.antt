@@ -17,15 +17,15 @@ use Rattle.code.specs.Settings.{Settings, check-count, value-size}
 use Rattle.code.specs.Polynomial.{first-exponent, eval}
 use Rattle.code.specs.Steps.Lanes.{in-row, lane}
 use Rattle.code.specs.Vector.{plane, is-vector}
-use Rattle.code.proofs.Polynomial.{eval-ext, getD-scaled, length-scaled, bytes-scaled}
-use Rattle.code.proofs.Vector.{Values, vector-back, plane-length}
+use Rattle.code.proofs.Polynomials.Arithmetic.{eval-ext, getD-scaled, length-scaled, bytes-scaled}
+use Rattle.code.proofs.Vectors.Planes.{Values, vector-back, plane-length}
 use Rattle.locator.specs.Locator.{massey, value}
 use Rattle.locator.specs.Errors.{place-exponent, error-byte, Located, Error-bytes}
 use Rattle.sums.specs.Places.{Place-powers, Evaluated}
 use Rattle.locator.specs.Plane.{Lane-written}
 use Rattle.repair.specs.Steps.Columns.{column-errors}
-use Rattle.code.proofs.Lane.{lane-length, lane-at, lane-is}
-use Rattle.locator.proofs.Places.{place-exponent-settings, exponent-column}
+use Rattle.code.proofs.Vectors.Lane.{lane-length, lane-at, lane-is}
+use Rattle.locator.proofs.Errors.Places.{place-exponent-settings, exponent-column}
 use Rattle.repair.proofs.ColumnErrors.{column-errors-length}
 
 -- the places themselves are their first powers

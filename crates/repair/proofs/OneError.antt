@@ -16,12 +16,12 @@ use Rattle.field.proofs.Times.{times-lt, zero-times}
 use Rattle.code.specs.Size.{row-width, place-rows}
 use Rattle.code.specs.Settings.{Settings, check-count}
 use Rattle.code.specs.Steps.Lanes.{in-row, lane}
-use Rattle.code.proofs.Lane.{lane-length, lane-at, lane-is}
+use Rattle.code.proofs.Vectors.Lane.{lane-length, lane-at, lane-is}
 use Rattle.code.proofs.Written.{all-zero, zero-at}
 use Rattle.locator.specs.Errors.{exponent, wrong-places, error-sum, Explained}
 use Rattle.locator.specs.Plane.{Single-at}
 use Rattle.repair.specs.Steps.Planes.{plane-sums, Explains}
-use Rattle.locator.proofs.Places.{place-exponent-settings}
+use Rattle.locator.proofs.Errors.Places.{place-exponent-settings}
 
 -- errors all of which are 0, or all but one
 counted-zero : (y : ℕ) → y ≡ 0 → _≡_ {A = ℕ} (cond (eqb y 0) 0 1) 0

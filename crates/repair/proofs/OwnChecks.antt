@@ -12,10 +12,11 @@ use borrow.Author.Tests.{eq-eqb}
 use Rattle.code.specs.Settings.{settings, settings-refusal, check-count, value-size}
 use Rattle.code.specs.Vector.{is-vector, are-checks, has-checks, cut, glued}
 use Rattle.code.specs.Entry.{values-in, in-front, Checks-put, Checks-says}
-use Rattle.code.proofs.Bytes.{Bytes, and-both}
-use Rattle.code.proofs.Cut.{cut-length, cut-values}
-use Rattle.code.proofs.Entry.{checks-given}
-use Rattle.code.proofs.Vector.{Values, values-back, vector-back, checked-of}
+use Rattle.code.proofs.Lists.Bytes.{Bytes}
+use Rattle.code.proofs.Lists.Tests.{and-both}
+use Rattle.code.proofs.Vectors.Cut.{cut-length, cut-values}
+use Rattle.code.proofs.Encoding.Entry.{checks-given}
+use Rattle.code.proofs.Vectors.Planes.{Values, values-back, vector-back, checked-of}
 
 glued-length : (n w : ℕ) (vs : List (List ℕ)) → length vs ≡ n → Values w vs → length (glued vs) ≡ n * w
 unfolding glued

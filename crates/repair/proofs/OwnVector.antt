@@ -9,16 +9,17 @@ use native.Mathlib.Omega.{arith}
 use lib.Dec.{eqb}
 use lib.ListN.{length, getD, replicate, length-replicate}
 use borrow.Author.Tests.{eqb-true}
-use Rattle.field.proofs.Xor.{plus-self, plus-zero}
+use Rattle.field.proofs.Xor.{plus-self, plus-zero, plus-again}
 use Rattle.code.specs.Settings.{Settings, check-count, value-size}
 use Rattle.code.specs.Polynomial.{added}
 use Rattle.code.specs.Vector.{plane, each-long, is-vector, are-checks, has-checks}
 use Rattle.code.specs.Repair.{Near, Repaired, No-repair}
-use Rattle.code.proofs.Bytes.{Bytes, and-split}
-use Rattle.code.proofs.Polynomial.{length-added, bytes-added, getD-added}
-use Rattle.code.proofs.Vector.{Values, values-of, Vector, vector-of, vector-back, Checked, checked-of, plane-length, plane-bytes}
+use Rattle.code.proofs.Lists.Bytes.{Bytes}
+use Rattle.code.proofs.Lists.Tests.{and-split}
+use Rattle.code.proofs.Polynomials.Arithmetic.{length-added, bytes-added, getD-added}
+use Rattle.code.proofs.Vectors.Planes.{Values, values-of, Vector, vector-of, vector-back, Checked, checked-of, plane-length, plane-bytes}
 use Rattle.repair.specs.Difference.{plus-values, zeros}
-use Rattle.locator.proofs.Linear.{plus-again, near-plus}
+use Rattle.code.proofs.Codewords.Linear.{near-plus}
 
 -- sums of bytes with zeros, with themselves, and twice with the same bytes
 added-zeros : (n : ℕ) (vs : List ℕ) → length vs ≡ n → Bytes vs → added vs (replicate n 0) ≡ vs

@@ -12,15 +12,15 @@ use Rattle.field.proofs.Power.{power-lt}
 use Rattle.code.specs.Size.{row-width}
 use Rattle.code.specs.Settings.{Settings, settings, check-count}
 use Rattle.code.specs.Steps.Lanes.{in-row, lane}
-use Rattle.code.proofs.Lane.{lane-length, lane-at}
-use Rattle.code.proofs.Polynomial.{eval-ext}
+use Rattle.code.proofs.Vectors.Lane.{lane-length, lane-at}
+use Rattle.code.proofs.Polynomials.Arithmetic.{eval-ext}
 use Rattle.locator.specs.Locator.{massey}
 use Rattle.locator.specs.Errors.{error-sum, wrong-places}
 use Rattle.sums.specs.Rows.{Explained-as}
 use Rattle.sums.specs.Places.{Evaluated}
 use Rattle.repair.specs.Steps.Planes.{plane-sums, Locators, Locators-as, Longest, Weighted, Counted-as, Searched-as}
-use Rattle.locator.proofs.Held.{massey-fitting}
-use Rattle.sums.proofs.ErrorSums.{explained-planes, unexplained-plane}
+use Rattle.locator.proofs.Locator.Held.{massey-fitting}
+use Rattle.sums.proofs.Sums.ErrorSums.{explained-planes, unexplained-plane}
 
 -- locators
 pub all-located :

@@ -12,18 +12,18 @@ use Rattle.code.specs.Size.{most-bad, plane-room, row-width, place-rows}
 use Rattle.code.specs.Settings.{Settings, settings, check-count}
 use Rattle.code.specs.Steps.Array.{Filled}
 use Rattle.code.specs.Steps.Lanes.{in-row, lane}
-use Rattle.code.proofs.Lane.{lane-length, lane-at}
+use Rattle.code.proofs.Vectors.Lane.{lane-length, lane-at}
 use Rattle.code.proofs.Written.{all-zero, zero-at}
 use Rattle.locator.specs.Locator.{massey, value}
 use Rattle.locator.specs.Errors.{wrong-places, Located}
 use Rattle.sums.specs.Places.{Place-powers}
 use Rattle.locator.specs.Plane.{Lane-written}
 use Rattle.repair.specs.Steps.Planes.{plane-sums, Locators, Weighted}
-use Rattle.locator.proofs.Held.{massey-fitting}
+use Rattle.locator.proofs.Locator.Held.{massey-fitting}
 use Rattle.repair.proofs.Located.{lane-located, lane-kept}
 use Rattle.repair.proofs.PlaneLocators.{plane-taken}
-use Rattle.locator.proofs.PlaneRows.{lane-written-to}
-use Rattle.locator.proofs.Sound.{value-lt}
+use Rattle.locator.proofs.Rows.Lanes.{lane-written-to}
+use Rattle.locator.proofs.Decoding.Sound.{value-lt}
 
 -- a plane's locator taken out of the rows again
 pub locator-taken :

@@ -11,14 +11,14 @@ use lib.Seq.{getD-set-same, getD-set-other, getD-take, length-take-le}
 use Rattle.code.specs.Size.{plane-room, row-width, locator-rows}
 use Rattle.code.specs.Steps.Array.{Filled}
 use Rattle.code.specs.Steps.Lanes.{in-row, lane}
-use Rattle.code.proofs.Lane.{lane-is}
+use Rattle.code.proofs.Vectors.Lane.{lane-is}
 use Rattle.code.proofs.Written.{all-zero, zero-at}
 use Rattle.locator.specs.Locator.{massey}
 use Rattle.locator.specs.Held.{Stands}
 use Rattle.locator.specs.Plane.{Lane-written}
 use Rattle.repair.specs.Steps.Planes.{plane-sums, Locators, Locators-as}
 use Rattle.locator.specs.declared.berlekamp.Locator.{Locator}
-use Rattle.locator.proofs.Held.{found-locator}
+use Rattle.locator.proofs.Locator.Held.{found-locator}
 
 -- a plane taken out of rows, and lent as far as it goes
 pub plane-taken : (p many : ℕ) (rows plane : List ℕ) → many ≤ plane-room → Filled plane-room many (λ j. getD rows (in-row j p) 0) plane → take many plane ≡ lane p many rows

@@ -14,7 +14,7 @@ use Rattle.code.specs.Settings.{Settings, settings, settings-refusal, check-cou
 use Rattle.code.specs.Size.{most-columns, value-room, vector-room}
 use Rattle.code.specs.Vector.{glued}
 use Rattle.code.specs.Entry.{values-in, padded}
-use Rattle.code.proofs.Word.{sizes}
+use Rattle.code.proofs.ValidSettings.{sizes}
 use Rattle.grading.specs.Value.{Vector, Rows}
 use Rattle.counting.specs.Stored.{Stores, Stores-held}
 use Rattle.grading.specs.Count.{agreed-vector, held-list}

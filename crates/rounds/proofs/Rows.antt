@@ -17,11 +17,11 @@ use Rattle.code.specs.Vector.{plane, is-vector, has-checks, differ-values}
 use Rattle.code.specs.Repair.{Repaired, No-repair}
 use Rattle.code.specs.Entry.{values-in}
 use Rattle.code.specs.Promise.{One-near, Repairs}
-use Rattle.code.proofs.Bytes.{Bytes}
-use Rattle.code.proofs.Word.{word-of}
-use Rattle.code.proofs.Near.{one-near}
-use Rattle.code.proofs.Vector.{Values, vector-of, vector-back, plane-length, planes-same, checked-of, repairs}
-use Rattle.code.proofs.Cut.{cut-length}
+use Rattle.code.proofs.Lists.Bytes.{Bytes}
+use Rattle.code.proofs.Codewords.Word.{word-of}
+use Rattle.code.proofs.Codewords.Near.{one-near}
+use Rattle.code.proofs.Vectors.Planes.{Values, vector-of, vector-back, plane-length, planes-same, checked-of, repairs}
+use Rattle.code.proofs.Vectors.Cut.{cut-length}
 use Rattle.grading.specs.Value.{Value, Vector, Rows, blanks}
 use Rattle.grading.specs.Count.{agreed-vector, held-list}
 use Rattle.grading.proofs.Value.{blank-size}

@@ -17,10 +17,11 @@ use denote.Array.{arrayVal}
 use Rattle.code.specs.Settings.{Settings, settings, settings-refusal, check-count, value-size}
 use Rattle.code.specs.Vector.{is-vector, are-checks, has-checks, cut, glued}
 use Rattle.code.specs.Entry.{values-in, in-front}
-use Rattle.code.proofs.Bytes.{Bytes, and-both}
-use Rattle.code.proofs.Cut.{cut-length, cut-values, value-fits, values-fit}
-use Rattle.code.proofs.Vector.{vector-of, values-back}
-use Rattle.code.proofs.Word.{sizes}
+use Rattle.code.proofs.Lists.Bytes.{Bytes}
+use Rattle.code.proofs.Lists.Tests.{and-both}
+use Rattle.code.proofs.Vectors.Cut.{cut-length, cut-values, value-fits}
+use Rattle.code.proofs.ValidSettings.{values-fit, sizes}
+use Rattle.code.proofs.Vectors.Planes.{vector-of, values-back}
 use Rattle.repair.specs.Entry.{Done, Done-by, repair-refusal, repair-by-refusal, Repair-by-as, Repair-by-says, By-own-checks}
 use Rattle.repair.proofs.ByOwnChecks.{by-own-checks}
 use Rattle.grading.specs.Value.{blank, blanks}

@@ -1,7 +1,3 @@
 pub mod Zeros
-pub mod CheckRows
-pub mod Terms
-pub mod CheckSums
-pub mod ErrorSums
-pub mod PlaceRows
-pub mod PlacePowers
+pub mod Sums
+pub mod AllPlaces

@@ -6,9 +6,8 @@ use native.Mathlib.Omega.{arith}
 use borrow.Author.Tests.{ne-eqb, lt-ltb}
 use Rattle.code.specs.Size.{most-columns, value-room}
 use Rattle.code.specs.Settings.{settings, settings-refusal}
-use Rattle.code.proofs.Word.{sizes}
-use Rattle.code.proofs.Cut.{values-fit}
-use Rattle.code.proofs.Entry.{checks-settings, checks-length, checks-done}
+use Rattle.code.proofs.ValidSettings.{sizes, values-fit}
+use Rattle.code.proofs.Encoding.Entry.{checks-settings, checks-length, checks-done}
 use borrow.Author.Needs.{needs}
 use Rattle.code.proofs.check_values.Statement.{statement}
 use Rattle.code.proofs.check_values.Tie as tie

@@ -7,10 +7,10 @@ use lib.ListN.{length, take, drop, length-append, length-drop}
 use lib.Seq.{length-take-le}
 use Rattle.code.specs.Size.{most-columns, row-width, place-rows}
 use Rattle.code.specs.Settings.{settings}
-use Rattle.code.proofs.Bytes.{bytes-every}
-use Rattle.code.proofs.Word.{sizes, value-in-row}
-use Rattle.code.proofs.Factors.{feedback-filled}
-use Rattle.code.proofs.Encoding.{checks-put}
+use Rattle.code.proofs.Lists.Bytes.{bytes-every}
+use Rattle.code.proofs.ValidSettings.{sizes, value-in-row}
+use Rattle.code.proofs.Encoding.Factors.{feedback-filled}
+use Rattle.code.proofs.Encoding.CheckValues.{checks-put}
 use borrow.Author.Needs.{needs}
 use Rattle.code.proofs.put_checks.Statement.{statement}
 use Rattle.code.proofs.put_checks.Tie as tie

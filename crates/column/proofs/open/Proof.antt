@@ -7,7 +7,7 @@ use native.Mathlib.Omega.{arith}
 use borrow.Author.Needs.{needs}
 use Rattle.code.specs.Settings.{settings}
 use Rattle.code.specs.Entry.{padded}
-use Rattle.code.proofs.Word.{sizes}
+use Rattle.code.proofs.ValidSettings.{sizes}
 use Rattle.record.specs.Stored.{identity, no-column, opened-column}
 use Rattle.record.specs.declared.Identity.{Identity}
 use Rattle.record.specs.declared.Column.{Column}

@@ -9,8 +9,7 @@ use borrow.Author.Needs.{needs}
 use Rattle.code.specs.Settings.{Settings, settings, value-size}
 use Rattle.code.specs.Size.{most-columns, vector-room}
 use Rattle.code.specs.Entry.{padded}
-use Rattle.code.proofs.Cut.{values-fit}
-use Rattle.code.proofs.Word.{sizes}
+use Rattle.code.proofs.ValidSettings.{values-fit, sizes}
 use Rattle.grading.specs.Held.{Held}
 use Rattle.counting.specs.Stored.{Stores-held}
 use Rattle.record.specs.Record.{who-as}

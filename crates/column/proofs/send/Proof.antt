@@ -11,7 +11,7 @@ use borrow.Author.Tests.{lt-ltb, le-ltb}
 use borrow.Rule.Slice.PartMut.{putMid}
 use Rattle.code.specs.Settings.{settings, settings-refusal}
 use Rattle.code.specs.Size.{most-columns}
-use Rattle.code.proofs.Word.{sizes}
+use Rattle.code.proofs.ValidSettings.{sizes}
 use Rattle.record.specs.Frame.{header-size, operand-size, frame-size, header}
 use Rattle.record.specs.Record.{who-as}
 use Rattle.record.specs.Refusal.{first-of, record-refusal, round-refusal, room-refusal}

@@ -9,7 +9,7 @@ use borrow.Author.Needs.{needs}
 use lib.ListN.{length, set}
 use Rattle.code.specs.Settings.{settings, settings-refusal}
 use Rattle.code.specs.Size.{most-columns}
-use Rattle.code.proofs.Word.{sizes}
+use Rattle.code.proofs.ValidSettings.{sizes}
 use Rattle.record.specs.Frame.{longest-frame}
 use Rattle.record.specs.Record.{raised, who-as}
 use Rattle.record.specs.Refusal.{first-of, record-refusal, round-refusal, slot-refusal, frame-refusal, take-refusal, counts-up}

@@ -12,8 +12,8 @@ use Rattle.code.specs.Plane.{byte-list}
 use Rattle.code.specs.Vector.{is-vector, has-checks, cut, glued}
 use Rattle.code.specs.Entry.{values-in}
 use Rattle.code.specs.Promise.{Checks-there}
-use Rattle.code.proofs.Vector.{Values, checked-of}
-use Rattle.code.proofs.Checks.{checks-there}
+use Rattle.code.proofs.Vectors.Planes.{Values, checked-of}
+use Rattle.code.proofs.Vectors.Checks.{checks-there}
 use Rattle.grading.specs.Value.{Value, Vector}
 use Rattle.record.specs.Frame.{operand-size, checks-in}
 use Rattle.record.specs.Record.{Rec, opened}

@@ -12,8 +12,8 @@ use lib.ListN.{length, length-map}
 use borrow.Author.Tests.{eqb-true, eq-eqb, ne-eqb, le-ltb, leb-true}
 use Rattle.code.specs.Settings.{Settings}
 use Rattle.code.specs.Vector.{same}
-use Rattle.code.proofs.Bytes.{and-split, all-from, all-below-at}
-use Rattle.code.proofs.Vector.{same-equal}
+use Rattle.code.proofs.Lists.Tests.{and-split, all-from, all-below-at}
+use Rattle.code.proofs.Vectors.Planes.{same-equal}
 use Rattle.grading.specs.Value.{Value}
 use Rattle.grading.specs.Promise.{all-different}
 use Rattle.record.specs.Frame.{header-size, run-in}

@@ -8,9 +8,9 @@ use lib.Dec.{eqb}
 use lib.ListN.{length, take}
 use borrow.Author.Tests.{eqb-true, eq-eqb}
 use Rattle.code.specs.Vector.{same}
-use Rattle.code.proofs.Bytes.{and-split}
-use Rattle.code.proofs.Quick.{quick-checks, checks-quick}
-use Rattle.code.proofs.Vector.{same-equal}
+use Rattle.code.proofs.Lists.Tests.{and-split}
+use Rattle.code.proofs.Codewords.Quick.{quick-checks, checks-quick}
+use Rattle.code.proofs.Vectors.Planes.{same-equal}
 use Rattle.grading.proofs.Bool.{true-not-false}
 use Rattle.record.specs.Frame.{header-size, frame-size, header, operand-in, checks-in}
 use Rattle.record.specs.Record.{Who, Found, Rec}

@@ -16,12 +16,13 @@ use Rattle.code.specs.Settings.{Settings, settings-refusal, check-count, value-
 use Rattle.code.specs.Plane.{syndrome, byte-list}
 use Rattle.code.specs.Vector.{plane}
 use Rattle.code.specs.Repair.{Near, No-repair}
-use Rattle.code.proofs.Bytes.{bytes-of, and-split, all-from, all-below-at}
-use Rattle.code.proofs.Word.{Shape}
-use Rattle.code.proofs.Quick.{quick-summed, summed-quick}
+use Rattle.code.proofs.Lists.Bytes.{bytes-of}
+use Rattle.code.proofs.Lists.Tests.{and-split, all-from, all-below-at}
+use Rattle.code.proofs.Codewords.Word.{Shape}
+use Rattle.code.proofs.Codewords.Quick.{quick-summed, summed-quick}
 use Rattle.locator.specs.Locator.{massey, value}
 use Rattle.locator.specs.Errors.{exponent, error-sum, Located, Explained}
-use Rattle.locator.proofs.Complete.{near-explained}
+use Rattle.locator.proofs.Decoding.Complete.{near-explained}
 use Rattle.grading.specs.Value.{Vector}
 use Rattle.grading.proofs.Bool.{true-not-false}
 use Rattle.counting.proofs.Padded.{zeros-at}

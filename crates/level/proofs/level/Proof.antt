@@ -4,7 +4,7 @@ use native.Mathlib.Omega.{arith}
 use borrow.Author.Needs.{needs}
 use mir.Facts.{toZ-ofZ}
 use Rattle.code.specs.Settings.{settings}
-use Rattle.code.proofs.Word.{Sizes}
+use Rattle.code.proofs.ValidSettings.{Sizes}
 use Rattle.record.specs.Record.{who-as}
 use Rattle.record.specs.View.{settings-of, who-in, view}
 use Rattle.column.specs.Entry.{Result-says}

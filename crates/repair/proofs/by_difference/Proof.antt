@@ -6,8 +6,8 @@ use borrow.Author.Tests.{not-true, not-false}
 use Rattle.code.specs.Size.{most-columns, row-width}
 use Rattle.code.specs.Settings.{settings, value-size}
 use Rattle.code.specs.Entry.{values-in}
-use Rattle.code.proofs.Bytes.{Bytes, bytes-every}
-use Rattle.code.proofs.Word.{sizes, value-in-row}
+use Rattle.code.proofs.Lists.Bytes.{Bytes, bytes-every}
+use Rattle.code.proofs.ValidSettings.{sizes, value-in-row}
 use Rattle.repair.specs.Entry.{none-found}
 use Rattle.repair.proofs.Answer.{some-bad, decoded-long, copied, answer-none, answer-found, answer-same}
 use Rattle.sums.proofs.Zeros.{zeros-of}

@@ -6,8 +6,7 @@ use native.Mathlib.Omega.{arith}
 use borrow.Author.Tests.{ne-eqb, lt-ltb}
 use Rattle.code.specs.Size.{most-columns, value-room}
 use Rattle.code.specs.Settings.{settings, settings-refusal}
-use Rattle.code.proofs.Word.{sizes}
-use Rattle.code.proofs.Cut.{values-fit}
+use Rattle.code.proofs.ValidSettings.{sizes, values-fit}
 use Rattle.repair.proofs.Entry.{refused-settings, refused-length, not-refused}
 use borrow.Author.Needs.{needs}
 use Rattle.repair.proofs.refused.Statement.{statement}

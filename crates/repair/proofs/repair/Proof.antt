@@ -10,9 +10,8 @@ use Rattle.code.specs.Size.{checks-room}
 use Rattle.code.specs.Settings.{settings, settings-refusal}
 use Rattle.code.specs.Vector.{has-checks}
 use Rattle.code.specs.Entry.{values-in}
-use Rattle.code.proofs.Bytes.{bytes-every}
-use Rattle.code.proofs.Cut.{check-room}
-use Rattle.code.proofs.Word.{sizes}
+use Rattle.code.proofs.Lists.Bytes.{bytes-every}
+use Rattle.code.proofs.ValidSettings.{check-room, sizes}
 use Rattle.repair.specs.Entry.{By-own-checks}
 use Rattle.repair.proofs.ByOwnChecks.{by-own-checks}
 use Rattle.repair.proofs.OwnChecks.{own-checks, is-vector-in, are-checks-in}

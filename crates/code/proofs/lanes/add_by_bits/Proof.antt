@@ -5,7 +5,7 @@ use native.Mathlib.Omega.{arith}
 use lib.ListN.{length}
 use borrow.Author.Needs.{needs}
 use Rattle.code.specs.Steps.Lanes.{Products-added}
-use Rattle.code.proofs.Multiples.{products-none, products-next, products-to}
+use Rattle.code.proofs.Products.Multiples.{products-none, products-next, products-to}
 use Rattle.code.proofs.lanes.add_by_bits.Statement.{statement}
 use Rattle.code.proofs.lanes.add_by_bits.Tie as tie
 

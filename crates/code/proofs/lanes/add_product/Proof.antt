@@ -4,7 +4,7 @@ use Prim.Native.Nat.{ℕ, _-_, _≤_}
 use native.Mathlib.Omega.{arith}
 use lib.ListN.{length}
 use Rattle.code.specs.Steps.Lanes.{Doublings}
-use Rattle.code.proofs.Doublings.{Bits-left, with-product, bits-none, bits-more, bits-whole}
+use Rattle.code.proofs.Products.Doublings.{Bits-left, with-product, bits-none, bits-more, bits-whole}
 use Rattle.code.proofs.lanes.add_product.Statement.{statement}
 use Rattle.code.proofs.lanes.add_product.Tie as tie
 

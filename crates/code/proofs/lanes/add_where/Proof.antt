@@ -2,7 +2,7 @@
 use native.Mathlib.Omega.{arith}
 use lib.ListN.{getD}
 use Rattle.code.specs.Steps.Lanes.{in-row}
-use Rattle.code.proofs.Doublings.{added-not, added-once}
+use Rattle.code.proofs.Products.Doublings.{added-not, added-once}
 use borrow.Author.Needs.{needs}
 use Rattle.code.proofs.lanes.add_where.Statement.{statement}
 use Rattle.code.proofs.lanes.add_where.Tie as tie

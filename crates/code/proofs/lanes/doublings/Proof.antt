@@ -5,7 +5,7 @@ use native.Mathlib.Omega.{arith}
 use lib.ListN.{getD}
 use borrow.Author.Needs.{needs}
 use Rattle.code.specs.Steps.Lanes.{Doublings}
-use Rattle.code.proofs.Doublings.{doublings-one, doublings-more, doublings-to}
+use Rattle.code.proofs.Products.Doublings.{doublings-one, doublings-more, doublings-to}
 use Rattle.code.proofs.lanes.doublings.Statement.{statement}
 use Rattle.code.proofs.lanes.doublings.Tie as tie
 

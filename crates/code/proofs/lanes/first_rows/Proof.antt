@@ -4,7 +4,7 @@ use Prim.Native.Nat.{_-_, _≤_}
 use native.Mathlib.Omega.{arith}
 use lib.ListN.{getD}
 use Rattle.code.specs.Size.{row-width}
-use Rattle.code.proofs.Multiples.{First-bytes, first-none, first-more, first-whole}
+use Rattle.code.proofs.Products.Multiples.{First-bytes, first-none, first-more, first-whole}
 use Rattle.code.proofs.lanes.first_rows.Statement.{statement}
 use Rattle.code.proofs.lanes.first_rows.Tie as tie
 

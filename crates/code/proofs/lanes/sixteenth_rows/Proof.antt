@@ -7,7 +7,7 @@ use borrow.Author.Needs.{needs}
 use Rattle.field.specs.Field.{doubled}
 use Rattle.code.specs.Steps.Lanes.{in-row}
 use Rattle.code.specs.Size.{row-width}
-use Rattle.code.proofs.Multiples.{First-bytes, first-none, first-more, first-whole, doubled-byte}
+use Rattle.code.proofs.Products.Multiples.{First-bytes, first-none, first-more, first-whole, doubled-byte}
 use Rattle.code.proofs.lanes.sixteenth_rows.Statement.{statement}
 use Rattle.code.proofs.lanes.sixteenth_rows.Tie as tie
 

@@ -2,7 +2,7 @@
 use mathlib.Core.Path.{refl}
 use mathlib.Core.Logic.{inl, inr}
 use native.Mathlib.Omega.{arith}
-use Rattle.code.proofs.Multiples.{multiples-double, multiples-join, plus-below}
+use Rattle.code.proofs.Products.Multiples.{multiples-double, multiples-join, plus-below}
 use Rattle.code.proofs.lanes.to_eight.Statement.{statement}
 use Rattle.code.proofs.lanes.to_eight.Tie as tie
 

@@ -1,6 +1,6 @@
 -- `generator` meets its contract, by recursion on the number of roots, which is the measure. Assumes nothing.
 use native.Mathlib.Omega.{arith}
-use Rattle.code.proofs.Factors.{generator-none, fewer-above, generator-more}
+use Rattle.code.proofs.Encoding.Factors.{generator-none, fewer-above, generator-more}
 use Prim.Native.Nat.{ℕ, _-_, _<_}
 use borrow.Fn.Kinds.{In}
 use borrow.Fn.PlainCycle.{Measures, is, falls, and}

@@ -5,8 +5,8 @@ use native.Mathlib.Omega.{arith}
 use lib.ListN.{length}
 use Rattle.code.specs.Size.{row-width}
 use Rattle.code.specs.Steps.Lanes.{Divided}
-use Rattle.code.proofs.Bytes.{bytes-every}
-use Rattle.code.proofs.Division.{divided-none, divided-part, divided-to}
+use Rattle.code.proofs.Lists.Bytes.{bytes-every}
+use Rattle.code.proofs.Encoding.Division.{divided-none, divided-part, divided-to}
 use Rattle.code.proofs.register.divide.Statement.{statement}
 use Rattle.code.proofs.register.divide.Tie as tie
 

@@ -5,7 +5,7 @@ use Prim.Native.Nat.{_≤_}
 use native.Mathlib.Omega.{arith}
 use borrow.Author.Needs.{needs}
 use Rattle.field.specs.Field.{plus}
-use Rattle.code.proofs.Factors.{Factored, factored-none, factored-more, factored-whole}
+use Rattle.code.proofs.Encoding.Factors.{Factored, factored-none, factored-more, factored-whole}
 use Rattle.code.proofs.register.times_factor.Statement.{statement}
 use Rattle.code.proofs.register.times_factor.Tie as tie
 

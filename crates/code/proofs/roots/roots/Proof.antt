@@ -2,7 +2,7 @@
 use mathlib.Core.Path.{refl}
 use Rattle.field.specs.Field.{doubled, plus, xor-from}
 use Rattle.field.proofs.Power.{doublings}
-use Rattle.code.proofs.Generator.{roots-tested}
+use Rattle.code.proofs.Polynomials.Generator.{roots-tested}
 use Rattle.code.proofs.roots.roots.Statement.{statement}
 use Rattle.code.proofs.roots.roots.Tie as tie
 

@@ -8,7 +8,7 @@ use borrow.Author.Needs.{needs}
 use borrow.Author.Tests.{eq-eqb, ne-eqb}
 use Rattle.code.specs.Settings.{settings, settings-refusal, check-count, value-size}
 use Rattle.code.specs.Size.{value-room}
-use Rattle.code.proofs.Word.{sizes}
+use Rattle.code.proofs.ValidSettings.{sizes}
 use Rattle.record.specs.Frame.{operand-size}
 use Rattle.record.specs.Record.{who-as}
 use Rattle.record.specs.View.{settings-of, who-in}

@@ -6,7 +6,8 @@ use denote.Ref.{now}
 use lib.ListN.{getD}
 use Rattle.code.specs.Size.{most-columns, vector-room}
 use Rattle.code.specs.Entry.{in-front, padded}
-use Rattle.code.proofs.Cut.{value-fits, values-fit}
+use Rattle.code.proofs.Vectors.Cut.{value-fits}
+use Rattle.code.proofs.ValidSettings.{values-fit}
 use Rattle.grading.specs.Value.{entries}
 use Rattle.counting.proofs.Padded.{padded-entry}
 use Rattle.counting.proofs.Planes.{plane-entries}

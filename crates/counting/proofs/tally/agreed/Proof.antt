@@ -7,7 +7,7 @@ use lib.Seq.{length-take-le}
 use borrow.Author.Needs.{needs}
 use Rattle.code.specs.Settings.{settings, value-size}
 use Rattle.code.specs.Size.{value-room}
-use Rattle.code.proofs.Cut.{values-fit}
+use Rattle.code.proofs.ValidSettings.{values-fit}
 use Rattle.grading.specs.Count.{agreed-at, agreed-vector}
 use Rattle.counting.specs.Steps.Table.{rows-in}
 use Rattle.counting.proofs.Placed.{Placed, placed-none, placed-more, placed-stores}

@@ -8,7 +8,7 @@ use borrow.Author.Needs.{needs}
 use Rattle.code.specs.Settings.{settings, value-size}
 use Rattle.code.specs.Size.{most-columns, value-room}
 use Rattle.code.specs.Entry.{in-front, padded}
-use Rattle.code.proofs.Cut.{values-fit}
+use Rattle.code.proofs.ValidSettings.{values-fit}
 use Rattle.grading.specs.Value.{entries}
 use Rattle.grading.specs.Count.{held-at, held-list}
 use Rattle.counting.specs.Steps.Table.{rows-in}

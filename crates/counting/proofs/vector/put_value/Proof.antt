@@ -6,7 +6,8 @@ use denote.Ref.{now}
 use lib.ListN.{length, getD}
 use Rattle.code.specs.Size.{most-columns, value-room, vector-room}
 use Rattle.code.specs.Steps.Array.{Written}
-use Rattle.code.proofs.Cut.{value-fits, values-fit}
+use Rattle.code.proofs.Vectors.Cut.{value-fits}
+use Rattle.code.proofs.ValidSettings.{values-fit}
 use Rattle.code.proofs.Written.{written-none, written-more, written-to}
 use Rattle.counting.proofs.vector.put_value.Statement.{statement}
 use Rattle.counting.proofs.vector.put_value.Tie as tie

@@ -8,7 +8,7 @@ use lib.ListN.{length, getD, take, set, length-set}
 use lib.Seq.{take-length}
 use Rattle.field.specs.Field.{plus}
 use Rattle.code.specs.Polynomial.{added, scaled}
-use Rattle.locator.proofs.Coefficients.{added-first, added-turn}
+use Rattle.locator.proofs.Polynomials.Coefficients.{added-first, added-turn}
 use Rattle.locator.proofs.berlekamp.add_scaled.Statement.{statement}
 use Rattle.locator.proofs.berlekamp.add_scaled.Tie as tie
 

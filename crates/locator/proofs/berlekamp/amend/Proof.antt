@@ -8,7 +8,7 @@ use lib.ListN.{length, take, drop, length-take, length-drop}
 use lib.Seq.{length-take-le}
 use borrow.Author.Needs.{needs}
 use Rattle.locator.specs.Held.{located}
-use Rattle.locator.proofs.Held.{carries-as-long}
+use Rattle.locator.proofs.Locator.Held.{carries-as-long}
 use Rattle.locator.proofs.berlekamp.amend.Statement.{statement}
 use Rattle.locator.proofs.berlekamp.amend.Tie as tie
 

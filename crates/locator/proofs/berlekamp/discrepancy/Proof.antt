@@ -6,7 +6,7 @@ use lib.ListN.{getD, take, drop}
 use lib.Seq.{getD-take, length-take-le}
 use Rattle.field.specs.Field.{plus, times}
 use Rattle.locator.specs.Locator.{against}
-use Rattle.locator.proofs.Horner.{entries, against-end, against-turn, against-done}
+use Rattle.locator.proofs.Polynomials.Horner.{entries, against-end, against-turn, against-done}
 use Rattle.locator.proofs.berlekamp.discrepancy.Statement.{statement}
 use Rattle.locator.proofs.berlekamp.discrepancy.Tie as tie
 

@@ -4,7 +4,7 @@ use mathlib.Core.Path.{_∙_, ap}
 use Prim.Native.Nat.{ℕ}
 use native.Mathlib.Omega.{arith}
 use Rattle.field.specs.Field.{plus, times}
-use Rattle.locator.proofs.Horner.{entries, Divided, divided-end, divided-turn, divided-root, divided-else}
+use Rattle.locator.proofs.Polynomials.Horner.{entries, Divided, divided-end, divided-turn, divided-root, divided-else}
 use Rattle.locator.proofs.berlekamp.error_at.Statement.{statement}
 use Rattle.locator.proofs.berlekamp.error_at.Tie as tie
 

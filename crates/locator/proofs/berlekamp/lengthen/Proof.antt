@@ -7,8 +7,8 @@ use lib.ListN.{getD}
 use Rattle.field.specs.Field.{plus, times}
 use Rattle.locator.specs.Locator.{raised}
 use Rattle.locator.specs.Held.{located}
-use Rattle.locator.proofs.Coefficients.{raised-below, Remade, remade-none, remade-more, remade-all}
-use Rattle.locator.proofs.Held.{carries-longer}
+use Rattle.locator.proofs.Polynomials.Coefficients.{raised-below, Remade, remade-none, remade-more, remade-all}
+use Rattle.locator.proofs.Locator.Held.{carries-longer}
 use Rattle.locator.proofs.berlekamp.lengthen.Statement.{statement}
 use Rattle.locator.proofs.berlekamp.lengthen.Tie as tie
 

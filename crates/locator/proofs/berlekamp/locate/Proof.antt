@@ -5,8 +5,8 @@ use Prim.Native.Nat.{ℕ, _+_, _-_, _≤_}
 use native.Mathlib.Omega.{arith}
 use Rattle.locator.specs.Locator.{massey}
 use Rattle.locator.specs.Held.{Stands, located}
-use Rattle.locator.proofs.Horner.{entries}
-use Rattle.locator.proofs.Held.{stands-start, stands-as, found-size, next-kept, next-longer, next-as-long}
+use Rattle.locator.proofs.Polynomials.Horner.{entries}
+use Rattle.locator.proofs.Locator.Held.{stands-start, stands-as, found-size, next-kept, next-longer, next-as-long}
 use Rattle.locator.proofs.berlekamp.locate.Statement.{statement}
 use Rattle.locator.proofs.berlekamp.locate.Tie as tie
 

@@ -1,7 +1,7 @@
 -- `locator::raised_at` meets its contract: below the shift there is 0. Assumes nothing.
 use mathlib.Core.Path.{sym}
 use native.Mathlib.Omega.{arith}
-use Rattle.locator.proofs.Steps.{raised-low, raised-high}
+use Rattle.locator.proofs.Polynomials.Raised.{raised-low, raised-high}
 use Rattle.locator.proofs.berlekamp.raised_at.Statement.{statement}
 use Rattle.locator.proofs.berlekamp.raised_at.Tie as tie
 

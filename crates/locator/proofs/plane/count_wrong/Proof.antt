@@ -5,7 +5,7 @@ use Prim.Native.Nat.{ℕ, _-_, _≤_}
 use native.Mathlib.Omega.{arith}
 use Rattle.code.specs.Steps.Lanes.{lane}
 use Rattle.locator.specs.Errors.{wrong-places}
-use Rattle.locator.proofs.PlaneRows.{one-wrong-more, none-wrong-more}
+use Rattle.locator.proofs.Rows.Lanes.{one-wrong-more, none-wrong-more}
 use Rattle.locator.proofs.plane.count_wrong.Statement.{statement}
 use Rattle.locator.proofs.plane.count_wrong.Tie as tie
 

@@ -4,7 +4,7 @@ use Prim.Native.Nat.{_-_, _≤_}
 use native.Mathlib.Omega.{arith}
 use lib.ListN.{length, getD}
 use Rattle.locator.specs.Plane.{Lane-written}
-use Rattle.locator.proofs.PlaneRows.{lane-written-none, lane-written-more, lane-written-to}
+use Rattle.locator.proofs.Rows.Lanes.{lane-written-none, lane-written-more, lane-written-to}
 use Rattle.locator.proofs.plane.put_plane.Statement.{statement}
 use Rattle.locator.proofs.plane.put_plane.Tie as tie
 

@@ -6,7 +6,7 @@ use native.Mathlib.Omega.{arith}
 use lib.ListN.{getD, set}
 use Rattle.code.specs.Steps.Lanes.{in-row}
 use Rattle.locator.specs.Plane.{Listed}
-use Rattle.locator.proofs.Listing.{listed-none, listed-root, listed-other, listed-to}
+use Rattle.locator.proofs.Rows.Listing.{listed-none, listed-root, listed-other, listed-to}
 use Rattle.locator.proofs.plane.root_places.Statement.{statement}
 use Rattle.locator.proofs.plane.root_places.Tie as tie
 

@@ -6,8 +6,8 @@ use native.Mathlib.Omega.{arith}
 use lib.ListN.{length, getD}
 use Rattle.code.specs.Steps.Lanes.{in-row}
 use Rattle.locator.specs.Locator.{value}
-use Rattle.locator.proofs.PlaneRows.{value-elsewhere}
-use Rattle.locator.proofs.Listing.{Listed-written, listed-written-none, listed-written-more, listed-written-lane}
+use Rattle.locator.proofs.Rows.Lanes.{value-elsewhere}
+use Rattle.locator.proofs.Rows.Listing.{Listed-written, listed-written-none, listed-written-more, listed-written-lane}
 use Rattle.locator.proofs.plane.weighted_errors.Statement.{statement}
 use Rattle.locator.proofs.plane.weighted_errors.Tie as tie
 

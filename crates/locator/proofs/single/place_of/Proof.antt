@@ -5,7 +5,7 @@ use Prim.Native.Nat.{_<_}
 use native.Mathlib.Omega.{arith}
 use lib.ListN.{getD}
 use Rattle.field.specs.Field.{power}
-use Rattle.locator.proofs.Geometric.{place-of-column, place-of-check}
+use Rattle.locator.proofs.Errors.Geometric.{place-of-column, place-of-check}
 use borrow.Author.Needs.{needs}
 use Rattle.locator.proofs.single.place_of.Statement.{statement}
 use Rattle.locator.proofs.single.place_of.Tie as tie

@@ -1,7 +1,7 @@
 -- `single_place` meets its contract: sums in geometric progression are those of one error at their ratio. Assumes nothing.
 use native.Mathlib.Omega.{arith}
 use borrow.Author.Tests.{not-false}
-use Rattle.locator.proofs.Geometric.{single-found, single-none, single-past}
+use Rattle.locator.proofs.Errors.Geometric.{single-found, single-none, single-past}
 use borrow.Author.Needs.{needs}
 use Rattle.locator.proofs.single.single_place.Statement.{statement}
 use Rattle.locator.proofs.single.single_place.Tie as tie

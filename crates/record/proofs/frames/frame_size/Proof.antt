@@ -4,7 +4,7 @@ use Prim.Native.Nat.{ℕ, _+_}
 use native.Mathlib.Omega.{arith}
 use borrow.Author.Needs.{needs}
 use Rattle.code.specs.Settings.{settings, check-count, value-size}
-use Rattle.code.proofs.Word.{sizes}
+use Rattle.code.proofs.ValidSettings.{sizes}
 use Rattle.record.specs.Frame.{header-size, operand-size, frame-size}
 use Rattle.record.specs.View.{settings-of}
 use Rattle.record.proofs.frames.frame_size.Statement.{statement}

@@ -5,7 +5,7 @@ use lib.ListN.{length, take}
 use lib.Seq.{length-take-le}
 use borrow.Author.Needs.{needs}
 use Rattle.code.specs.Settings.{settings, value-size}
-use Rattle.code.proofs.Word.{sizes}
+use Rattle.code.proofs.ValidSettings.{sizes}
 use Rattle.record.specs.Refusal.{line, blank-refusal, record-refusal}
 use Rattle.record.specs.Record.{who-as}
 use Rattle.record.specs.View.{settings-of, who-in}

@@ -4,8 +4,8 @@ use Prim.Native.Nat.{ℕ, _+_, _*_}
 use native.Mathlib.Omega.{arith}
 use borrow.Author.Needs.{needs}
 use Rattle.field.specs.Field.{power}
-use Rattle.code.proofs.Generator.{root-lt}
-use Rattle.sums.proofs.PlacePowers.{first-logarithm}
+use Rattle.code.proofs.Polynomials.Generator.{root-lt}
+use Rattle.sums.proofs.AllPlaces.Powers.{first-logarithm}
 use Rattle.repair.proofs.columns.inverse_weights.Statement.{statement}
 use Rattle.repair.proofs.columns.inverse_weights.Tie as tie
 

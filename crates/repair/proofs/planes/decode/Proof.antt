@@ -3,7 +3,7 @@ use Prim.Native.Nat.{_+_, _*_, _≤_}
 use native.Mathlib.Omega.{arith}
 use Rattle.code.specs.Size.{most-columns, row-width}
 use Rattle.code.specs.Settings.{Settings, settings, check-count}
-use Rattle.code.proofs.Word.{sizes}
+use Rattle.code.proofs.ValidSettings.{sizes}
 use Rattle.repair.proofs.Decoding.{sums-spare, decoded-single, decoded-searched}
 use borrow.Author.Needs.{needs}
 use Rattle.repair.proofs.planes.decode.Statement.{statement}

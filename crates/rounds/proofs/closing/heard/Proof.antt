@@ -7,7 +7,7 @@ use lib.Seq.{length-take-le}
 use borrow.Author.Needs.{needs}
 use Rattle.code.specs.Settings.{settings, value-size}
 use Rattle.code.specs.Size.{most-columns, value-room}
-use Rattle.code.proofs.Cut.{values-fit}
+use Rattle.code.proofs.ValidSettings.{values-fit}
 use Rattle.grading.specs.Value.{Vector}
 use Rattle.counting.specs.Stored.{Stores}
 use Rattle.grading.proofs.Value.{entries-next}

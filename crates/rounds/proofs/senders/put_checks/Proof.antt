@@ -6,8 +6,7 @@ use lib.ListN.{length, take}
 use lib.Seq.{length-take-le}
 use borrow.Author.Needs.{needs}
 use Rattle.code.specs.Settings.{settings}
-use Rattle.code.proofs.Word.{sizes}
-use Rattle.code.proofs.Cut.{values-fit}
+use Rattle.code.proofs.ValidSettings.{sizes, values-fit}
 use Rattle.record.proofs.Front.{checks-written}
 use Rattle.rounds.proofs.senders.put_checks.Statement.{statement}
 use Rattle.rounds.proofs.senders.put_checks.Tie as tie

@@ -6,8 +6,8 @@ use lib.ListN.{length, take, drop, replicate, length-drop}
 use lib.Seq.{length-take-le}
 use borrow.Author.Needs.{needs}
 use Rattle.code.specs.Settings.{settings, check-count, value-size}
-use Rattle.code.proofs.Bytes.{Bytes, bytes-take, bytes-drop}
-use Rattle.code.proofs.Word.{sizes}
+use Rattle.code.proofs.Lists.Bytes.{Bytes, bytes-take, bytes-drop}
+use Rattle.code.proofs.ValidSettings.{sizes}
 use Rattle.record.specs.Frame.{operand-in}
 use Rattle.rounds.specs.Exchange.{Row}
 use Rattle.rounds.specs.Steps.Senders.{coded-settings, coded-vector, Slot-row}

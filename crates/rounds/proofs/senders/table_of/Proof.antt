@@ -8,7 +8,7 @@ use borrow.Author.Count.{below-more}
 use borrow.Author.Needs.{needs}
 use Rattle.code.specs.Settings.{settings, value-size}
 use Rattle.code.specs.Entry.{values-in}
-use Rattle.code.proofs.Word.{sizes}
+use Rattle.code.proofs.ValidSettings.{sizes}
 use Rattle.counting.specs.Steps.Table.{Shaped, row-in}
 use Rattle.counting.proofs.Planes.{shape-zeros, row-put-row, row-put-others}
 use Rattle.rounds.specs.Steps.Senders.{coded-settings, coded-vector, slot-past, Slot-row, Slot-rows}

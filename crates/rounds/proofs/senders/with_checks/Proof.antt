@@ -11,7 +11,7 @@ use Rattle.record.specs.Frame.{checks-in}
 use Rattle.rounds.specs.Steps.Senders.{coded-settings, coded-vector}
 use Rattle.code.specs.Vector.{has-checks}
 use Rattle.code.specs.Entry.{values-in}
-use Rattle.code.proofs.Word.{sizes}
+use Rattle.code.proofs.ValidSettings.{sizes}
 use Rattle.rounds.proofs.SenderRow.{operand-fits}
 use Rattle.rounds.proofs.senders.with_checks.Statement.{statement}
 use Rattle.rounds.proofs.senders.with_checks.Tie as tie

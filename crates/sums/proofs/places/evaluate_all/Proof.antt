@@ -4,8 +4,8 @@ use Prim.Native.Nat.{_+_, _-_, _≤_}
 use native.Mathlib.Omega.{arith}
 use lib.Seq.{length-take-le}
 use Rattle.sums.specs.Places.{Evaluated}
-use Rattle.sums.proofs.Terms.{row-length, row-at}
-use Rattle.sums.proofs.PlaceRows.{evaluated-none, evaluated-more, evaluated-to}
+use Rattle.sums.proofs.Sums.Terms.{row-length, row-at}
+use Rattle.sums.proofs.AllPlaces.Polynomials.{evaluated-none, evaluated-more, evaluated-to}
 use Rattle.sums.proofs.places.evaluate_all.Statement.{statement}
 use Rattle.sums.proofs.places.evaluate_all.Tie as tie
 

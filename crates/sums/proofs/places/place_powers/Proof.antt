@@ -6,7 +6,7 @@ use native.Mathlib.Nat.{mul-le-mul}
 use lib.ListN.{replicate}
 use lib.Seq.{length-take-le, length-front}
 use Rattle.code.specs.Size.{most-places, plane-room}
-use Rattle.sums.proofs.PlacePowers.{place-powers-joined}
+use Rattle.sums.proofs.AllPlaces.Powers.{place-powers-joined}
 use Rattle.sums.proofs.places.place_powers.Statement.{statement}
 use Rattle.sums.proofs.places.place_powers.Tie as tie
 

@@ -1,6 +1,6 @@
 -- `add_row` meets its contract: the products are added, and a row of zeros has none. Assumes nothing.
 use borrow.Author.Needs.{needs}
-use Rattle.sums.proofs.Terms.{products-of-zeros}
+use Rattle.sums.proofs.Sums.Terms.{products-of-zeros}
 use Rattle.sums.proofs.rows.add_row.Statement.{statement}
 use Rattle.sums.proofs.rows.add_row.Tie as tie
 

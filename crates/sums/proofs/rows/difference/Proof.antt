@@ -5,7 +5,7 @@ use native.Mathlib.Omega.{arith}
 use native.Mathlib.Nat.{suc-mul}
 use native.Mathlib.Numerals.{add-one}
 use Rattle.sums.specs.Rows.{Values-added}
-use Rattle.sums.proofs.CheckRows.{value-within, values-none, values-more, values-whole}
+use Rattle.sums.proofs.Sums.CheckRows.{value-within, values-none, values-more, values-whole}
 use Rattle.sums.proofs.rows.difference.Statement.{statement}
 use Rattle.sums.proofs.rows.difference.Tie as tie
 

@@ -5,8 +5,8 @@ use native.Mathlib.Omega.{arith}
 use lib.Seq.{length-take-le}
 use borrow.Author.Needs.{needs}
 use Rattle.sums.specs.Rows.{Error-sums}
-use Rattle.sums.proofs.Terms.{row-length, row-at, front-room, filled-front, terms-of-products}
-use Rattle.sums.proofs.ErrorSums.{error-sums-none, error-sums-more, error-sums-whole}
+use Rattle.sums.proofs.Sums.Terms.{row-length, row-at, front-room, filled-front, terms-of-products}
+use Rattle.sums.proofs.Sums.ErrorSums.{error-sums-none, error-sums-more, error-sums-whole}
 use Rattle.sums.proofs.rows.error_sums.Statement.{statement}
 use Rattle.sums.proofs.rows.error_sums.Tie as tie
 

@@ -3,7 +3,7 @@ use mathlib.Core.Path.{sym}
 use native.Mathlib.Omega.{arith}
 use lib.Seq.{length-take-le}
 use borrow.Author.Needs.{needs}
-use Rattle.sums.proofs.ErrorSums.{explained}
+use Rattle.sums.proofs.Sums.ErrorSums.{explained}
 use Rattle.sums.proofs.rows.leaves_nothing.Statement.{statement}
 use Rattle.sums.proofs.rows.leaves_nothing.Tie as tie
 

@@ -8,7 +8,7 @@ use Rattle.field.specs.Field.{power}
 use Rattle.code.specs.Size.{most-checks}
 use Rattle.code.specs.Polynomial.{root}
 use Rattle.code.specs.Steps.Array.{Filled}
-use Rattle.code.proofs.Generator.{root-lt, root-nonzero}
+use Rattle.code.proofs.Polynomials.Generator.{root-lt, root-nonzero}
 use Rattle.code.proofs.Written.{filled-none, filled-more}
 use Rattle.sums.proofs.rows.root_logarithms.Statement.{statement}
 use Rattle.sums.proofs.rows.root_logarithms.Tie as tie

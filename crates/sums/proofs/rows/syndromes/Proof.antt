@@ -3,8 +3,8 @@ use mathlib.Core.Path.{_≡_, refl, sym}
 use Prim.Native.Nat.{_-_, _≤_}
 use native.Mathlib.Omega.{arith}
 use Rattle.sums.specs.Rows.{Check-sums}
-use Rattle.sums.proofs.Terms.{row-length, row-at, filled-prefix, terms-of-products}
-use Rattle.sums.proofs.CheckSums.{check-sums-none, check-sums-more, check-sums-whole}
+use Rattle.sums.proofs.Sums.Terms.{row-length, row-at, filled-prefix, terms-of-products}
+use Rattle.sums.proofs.Sums.CheckSums.{check-sums-none, check-sums-more, check-sums-whole}
 use Rattle.sums.proofs.rows.syndromes.Statement.{statement}
 use Rattle.sums.proofs.rows.syndromes.Tie as tie
 

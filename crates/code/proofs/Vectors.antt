@@ -1,0 +1,6 @@
+-- Vectors of values: their planes, their check values, and how they lie in lent bytes and in rows.
+pub mod Planes
+pub mod Checks
+pub mod Cut
+pub mod Lane
+pub mod Loading

@@ -1,0 +1,138 @@
+-- Vectors of values and their byte planes. What the tests of a vector and of its check values say is given as records, both
+-- ways. Values are equal where all their planes are, so check values are unique because each plane's are; and a plane of two
+-- vectors differs in no more places than the vectors in values, so check values repair what differs in at most t. Assumes nothing.
+use mathlib.Core.Path.{_≡_, refl, sym, _∙_, ap, ap₂}
+use mathlib.Core.Bool.{Bool, true, _&&_}
+use mathlib.Core.List.{List, [], _∷_}
+use Prim.Native.Nat.{ℕ, zero, suc, _<_, _≤_}
+use native.Mathlib.Omega.{arith}
+use lib.Dec.{eqb}
+use lib.ListN.{length, getD, drop}
+use lib.Seq.{ext-getD}
+use borrow.Author.Tests.{eqb-true, eq-eqb}
+use Rattle.code.specs.Settings.{Settings, settings-refusal, check-count, value-size}
+use Rattle.code.specs.Plane.{is-codeword, byte-list, differ}
+use Rattle.code.specs.Vector.{plane, each-long, is-vector, are-checks, planes-from, has-checks, same, differ-values}
+use Rattle.code.specs.Promise.{Repairs}
+use Rattle.code.proofs.Lists.Bytes.{Bytes, bytes-of, bytes-back, byte-at}
+use Rattle.code.proofs.Lists.Tests.{and-split, and-both, all-from, all-below-at, all-below-back, count-le}
+use Rattle.code.proofs.Codewords.Near.{differ-self, plane-unique}
+
+-- values of so many bytes
+abbrev pub Values : (size : ℕ) → List (List ℕ) → Type 0
+Values w [] = Unit {0}
+Values w (v ∷ vs) = (length v ≡ w) × Bytes v × Values w vs
+
+pub values-of : (w : ℕ) (vs : List (List ℕ)) → each-long w vs ≡ true → Values w vs
+unfolding each-long
+values-of w [] e = tt
+values-of w (v ∷ vs) e =
+    let parts = and-split (eqb (length v) w && byte-list v) (each-long w vs) e in
+    let first = and-split (eqb (length v) w) (byte-list v) (parts .0) in
+    (eqb-true _ _ (first .0), bytes-of v (first .1), values-of w vs (parts .1))
+
+pub values-back : (w : ℕ) (vs : List (List ℕ)) → Values w vs → each-long w vs ≡ true
+unfolding each-long
+values-back w [] l = refl
+values-back w (v ∷ vs) l = and-both (and-both (eq-eqb _ _ (l .0)) (bytes-back v (l .1))) (values-back w vs (l .2))
+
+-- a vector
+pub record Vector (s : Settings) (vs : List (List ℕ)) : Type 0 where
+  pub many : length vs ≡ s .n
+  pub values : Values (value-size s) vs
+
+pub vector-of : (s : Settings) (vs : List (List ℕ)) → is-vector s vs ≡ true → Vector s vs
+unfolding is-vector
+vector-of s vs e =
+    let parts = and-split (eqb (length vs) (s .n)) (each-long (value-size s) vs) e in
+    record { many = eqb-true _ _ (parts .0); values = values-of (value-size s) vs (parts .1) }
+
+pub vector-back : (s : Settings) (vs : List (List ℕ)) → Vector s vs → is-vector s vs ≡ true
+unfolding is-vector
+vector-back s vs v = and-both (eq-eqb _ _ (v .many)) (values-back (value-size s) vs (v .values))
+
+-- planes
+pub plane-length : (p : ℕ) (vs : List (List ℕ)) → length (plane p vs) ≡ length vs
+unfolding plane
+plane-length p [] = refl
+plane-length p (v ∷ vs) = ap suc (plane-length p vs)
+
+pub plane-bytes : (p w : ℕ) (vs : List (List ℕ)) → Values w vs → Bytes (plane p vs)
+unfolding plane
+plane-bytes p w [] l = tt
+plane-bytes p w (v ∷ vs) l = (byte-at v p (l .1), plane-bytes p w vs (l .2))
+
+pub planes-same :
+    (w : ℕ) (vs us : List (List ℕ)) → length vs ≡ length us → Values w vs → Values w us → ((p : ℕ) → p < w → plane p vs ≡ plane p us) → vs ≡ us
+unfolding plane
+planes-same w [] [] e l m h = refl
+planes-same w [] (u ∷ us) e l m h = absurd (omega arith)
+planes-same w (v ∷ vs) [] e l m h = absurd (omega arith)
+planes-same w (v ∷ vs) (u ∷ us) e l m h =
+    ap₂ _∷_ (ext-getD 0 v u (l .0 ∙ sym (m .0)) (λ p k. ap (λ (bs : List ℕ). getD bs 0 0) (h p (rw (l .0) at k))))
+    (planes-same w vs us (omega arith) (l .2) (m .2) (λ p k. ap (drop 1) (h p k)))
+
+-- a vector with its check values
+pub record Checked (s : Settings) (vs cs : List (List ℕ)) : Type 0 where
+  pub many : length cs ≡ check-count s
+  pub values : Values (value-size s) cs
+  pub planes : (p : ℕ) → p < value-size s → is-codeword s (plane p vs) (plane p cs) ≡ true
+
+plane-tests : (n i : ℕ) (s : Settings) (vs cs : List (List ℕ)) → planes-from n i s vs cs ≡ all-from n i (λ p. is-codeword s (plane p vs) (plane p cs))
+unfolding planes-from all-from
+plane-tests zero i s vs cs = refl
+plane-tests (suc n) i s vs cs = ap (λ (t : Bool). is-codeword s (plane i vs) (plane i cs) && t) (plane-tests n (suc i) s vs cs)
+
+pub checked-of : (s : Settings) (vs cs : List (List ℕ)) → has-checks s vs cs ≡ true → Checked s vs cs
+unfolding has-checks are-checks
+checked-of s vs cs e =
+    let parts = and-split (eqb (length cs) (check-count s) && each-long (value-size s) cs) (planes-from (value-size s) 0 s vs cs) e in
+    let checks = and-split (eqb (length cs) (check-count s)) (each-long (value-size s) cs) (parts .0) in
+    record {
+      many = eqb-true _ _ (checks .0);
+      values = values-of (value-size s) cs (checks .1);
+      planes = all-below-at (value-size s) (λ p. is-codeword s (plane p vs) (plane p cs)) (sym (plane-tests (value-size s) 0 s vs cs) ∙ parts .1);
+    }
+
+pub checked-back : (s : Settings) (vs cs : List (List ℕ)) → Checked s vs cs → has-checks s vs cs ≡ true
+unfolding has-checks are-checks
+checked-back s vs cs c =
+    and-both (and-both (eq-eqb _ _ (c .many)) (values-back (value-size s) cs (c .values)))
+    (plane-tests (value-size s) 0 s vs cs ∙ all-below-back (value-size s) (λ p. is-codeword s (plane p vs) (plane p cs)) (c .planes))
+
+-- a vector has at most one list of check values
+pub checks-unique :
+    (s : Settings) (vs cs ds : List (List ℕ)) → settings-refusal s ≡ 0 → has-checks s vs cs ≡ true → has-checks s vs ds ≡ true → cs ≡ ds
+checks-unique s vs cs ds r e f =
+    let c = checked-of s vs cs e in
+    let d = checked-of s vs ds f in
+    planes-same (value-size s) cs ds (c .many ∙ sym (d .many)) (c .values) (d .values)
+    (λ p h. plane-unique s (plane p vs) (plane p cs) (plane p ds) r (c .planes p h) (d .planes p h))
+
+-- differences
+pub same-equal : (a b : List ℕ) → same a b ≡ true → a ≡ b
+unfolding same
+same-equal [] [] e = refl
+same-equal [] (y ∷ ys) e = cc
+same-equal (x ∷ xs) [] e = cc
+same-equal (x ∷ xs) (y ∷ ys) e = let parts = and-split (eqb x y) (same xs ys) e in ap₂ _∷_ (eqb-true x y (parts .0)) (same-equal xs ys (parts .1))
+
+pub plane-differ : (p : ℕ) (vs us : List (List ℕ)) → differ (plane p vs) (plane p us) ≤ differ-values vs us
+unfolding differ plane differ-values
+plane-differ p [] us = omega arith
+plane-differ p (v ∷ vs) [] = omega arith
+plane-differ p (v ∷ vs) (u ∷ us) =
+    omega (
+      arith,
+      count-le (eqb (getD v p 0) (getD u p 0)) (same v u) (λ e. eq-eqb _ _ (ap (λ (bs : List ℕ). getD bs p 0) (same-equal v u e))),
+      plane-differ p vs us,
+    )
+
+pub repairs : Repairs
+unfolding Repairs
+repairs s vs us cs r e f c d =
+    let checked = checked-of s us cs c in
+    record {
+      vector = f;
+      planes = λ p h. (plane p cs, record { codeword = checked .planes p h; within = omega (arith, plane-differ p vs us, differ-self (plane p cs)) });
+    }

@@ -1,0 +1,86 @@
+-- Where a codeword is near, the decoder finds it. The places in which the codeword and the word differ have the syndromes for
+-- power sums, and at most t of them are wrong. So the locator has at most t roots to tell, its values are the weighted errors at
+-- all places, and these explain the syndromes. Assumes nothing.
+use mathlib.Core.Path.{_≡_, sym, _∙_, ap, ap₂}
+use mathlib.Core.List.{List}
+use Prim.Native.Nat.{ℕ, _<_, _≤_}
+use native.Mathlib.Omega.{arith}
+use lib.ListN.{length, getD}
+use Rattle.field.specs.Field.{plus}
+use Rattle.field.proofs.Xor.{plus-self, plus-zero}
+use Rattle.code.specs.Settings.{Settings, settings-refusal, check-count}
+use Rattle.code.specs.Polynomial.{eval}
+use Rattle.code.specs.Plane.{syndrome}
+use Rattle.code.specs.Repair.{Near}
+use Rattle.code.proofs.Codewords.Place.{Place, Byte-places, Different, All-zero, nonzero, weighed}
+use Rattle.code.proofs.Codewords.PowerSum.{power-sum}
+use Rattle.code.proofs.ValidSettings.{sizes}
+use Rattle.code.proofs.Codewords.Word.{Shape, Word, word-of, word-errors, word-errors-bytes, word-errors-count, word-errors-different, word-errors-sum}
+use Rattle.locator.specs.Locator.{massey, value}
+use Rattle.locator.specs.Errors.{Located, Explained}
+use Rattle.locator.proofs.Locator.Shape.{massey-shape}
+use Rattle.locator.proofs.Locator.Size.{size-le-nonzero, roots-all}
+use Rattle.locator.proofs.Locator.Roots.{in-at, value-at-place}
+use Rattle.code.proofs.Codewords.Linear.{syndrome-lt}
+use Rattle.locator.proofs.Errors.Places.{placed, placed-sum, placed-nonzero, word-errors-length, word-errors-power, placed-word-errors}
+
+module _ (s : Settings) (bs cs us ds : List ℕ) (S : ℕ → ℕ) (r : settings-refusal s ≡ 0) (v : Shape s bs cs) (same : (i : ℕ) → i < check-count s → S i ≡ syndrome s i bs cs) (near : Near s bs cs us ds) where
+  word : Word s us ds
+  word = word-of s us ds (near .codeword)
+
+  places : List Place
+  places = word-errors s bs cs us ds
+
+  bytes : Byte-places places
+  unfolding places
+  bytes = word-errors-bytes s bs cs us ds
+
+  different : Different places
+  unfolding places
+  different = word-errors-different s bs cs us ds (sizes s r) (v .many)
+
+  few : nonzero places ≤ s .t
+  unfolding places
+  few = omega (arith, word-errors-count s bs cs us ds, near .within)
+
+  sums : (i : ℕ) → i < check-count s → S i ≡ power-sum i places
+  unfolding places
+  sums i h =
+      same i h ∙ sym (word-errors-sum s bs cs us ds i (sizes s r) v (word .shape) ∙ ap (plus _) (word .roots i h) ∙ plus-zero _ (syndrome-lt s i bs cs))
+
+  -- the locator: no longer than there are errors, and zero at each
+  size-low : massey S (check-count s) .size ≤ nonzero places
+  size-low = size-le-nonzero places bytes different S (check-count s) sums (check-count s) (omega arith)
+
+  pub near-size : massey S (check-count s) .size ≤ s .t
+  near-size = omega (arith, size-low, few)
+
+  roots : All-zero (weighed (eval (massey S (check-count s) .locator)) places)
+  unfolding check-count
+  roots = roots-all places bytes different S (check-count s) sums (check-count s) (omega arith) (omega (arith, few))
+
+  value-is : (p : Place) (j : ℕ) → j < length places → value S (massey S (check-count s) .locator) (getD places j p .x) ≡ getD places j p .y
+  value-is p j h =
+      value-at-place S (check-count s) places bytes different sums (massey S (check-count s) .locator) roots (getD places j p) (in-at places j p h)
+      (massey S (check-count s) .size) (massey-shape S (check-count s) .monic) (massey-shape S (check-count s) .below) size-low
+
+  -- the errors that it tells are those of the codeword
+  module _ (ys : List ℕ) (located : Located s S ys) where
+    all-right : placed s 0 ys ≡ places
+    unfolding places
+    all-right =
+        placed-word-errors s bs cs us ds (sizes s r) v (word .shape) none ys (located .many)
+        (λ j h.
+        located .each j h
+        ∙ ap (value S (massey S (check-count s) .locator)) (sym (word-errors-power s bs cs us ds (sizes s r) v (word .shape) none j h))
+        ∙ value-is none j (rw (word-errors-length s bs cs us ds (sizes s r) v (word .shape)) h))
+      where
+        none : Place
+        none = record { x = 0; y = 0 }
+
+    pub near-explained : Explained s S ys
+    near-explained =
+        record {
+          few = omega (arith, few, placed-nonzero s 0 ys, ap nonzero all-right);
+          sums = λ i h. ap₂ plus (sums i h) (sym (placed-sum s i 0 ys) ∙ ap (power-sum i) all-right) ∙ plus-self _;
+        }

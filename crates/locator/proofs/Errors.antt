@@ -1,0 +1,5 @@
+-- Weighted errors by the number of their place.
+pub mod Places
+pub mod Totals
+pub mod Mended
+pub mod Geometric

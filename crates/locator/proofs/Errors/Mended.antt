@@ -1,0 +1,88 @@
+-- Bytes with their errors added. They differ from the bytes only where a weighted error is not zero; and as places, the bytes
+-- and these differ by the weighted errors again, since a weight is divided out and multiplied in. Assumes nothing.
+use mathlib.Core.Path.{_≡_, refl, sym, _∙_, ap, ap₂}
+use mathlib.Core.List.{List, [], _∷_}
+use Prim.Native.Nat.{ℕ, zero, suc, _+_, _*_, _-_, _<_, _≤_}
+use native.Mathlib.Omega.{arith}
+use lib.Dec.{eqb}
+use lib.ListN.{length, getD}
+use borrow.Author.Tests.{eqb-true, eq-eqb}
+use Rattle.field.specs.Field.{plus, times, power, inverse}
+use Rattle.field.proofs.Xor.{plus-lt, plus-zero, plus-again}
+use Rattle.field.proofs.Times.{times-lt, zero-times}
+use Rattle.field.proofs.Power.{power-lt, power-nonzero}
+use Rattle.field.proofs.Division.{divide-times}
+use Rattle.code.specs.Polynomial.{first-exponent}
+use Rattle.code.specs.Settings.{Settings}
+use Rattle.code.specs.Plane.{differ}
+use Rattle.code.proofs.Lists.Bytes.{Bytes}
+use Rattle.code.proofs.Lists.Tests.{count-le}
+use Rattle.code.proofs.Codewords.Place.{Place}
+use Rattle.code.proofs.Codewords.Errors.{errors}
+use Rattle.locator.specs.Errors.{exponent, error-byte, mended, wrong-places}
+use Rattle.locator.proofs.Errors.Places.{placed}
+
+pub mended-length : (s : Settings) (j : ℕ) (bs ys : List ℕ) → length (mended s j bs ys) ≡ length bs
+unfolding mended
+mended-length s j [] ys = refl
+mended-length s j (b ∷ bs) [] = refl
+mended-length s j (b ∷ bs) (y ∷ ys) = ap suc (mended-length s (suc j) bs ys)
+
+pub mended-bytes : (s : Settings) (j : ℕ) (bs ys : List ℕ) → Bytes bs → Bytes (mended s j bs ys)
+unfolding mended
+mended-bytes s j [] ys b = tt
+mended-bytes s j (b ∷ bs) [] c = c
+mended-bytes s j (b ∷ bs) (y ∷ ys) c = (plus-lt _ _, mended-bytes s (suc j) bs ys (c .1))
+
+pub mended-at :
+    (s : Settings) (i : ℕ) (bs ys : List ℕ) (j k : ℕ) → k ≡ i + j → j < length bs → length bs ≡ length ys →
+    getD (mended s i bs ys) j 0 ≡ plus (getD bs j 0) (error-byte s k (getD ys j 0))
+unfolding mended
+mended-at s i [] ys j k e h l = absurd (omega arith)
+mended-at s i (b ∷ bs) [] j k e h l = absurd (omega arith)
+mended-at s i (b ∷ bs) (y ∷ ys) zero k e h l = ap (λ (m : ℕ). plus b (error-byte s m y)) (let q : i ≡ k = omega arith in q)
+mended-at s i (b ∷ bs) (y ∷ ys) (suc j) k e h l = mended-at s (suc i) bs ys j k (omega arith) (omega arith) (omega arith)
+
+-- they differ only where a weighted error is not zero
+no-error : (s : Settings) (j b y : ℕ) → b < 256 → y ≡ 0 → b ≡ plus b (error-byte s j y)
+unfolding error-byte
+no-error s j b y h e = sym (ap (plus b) (ap (λ (z : ℕ). times z (inverse (power 2 (first-exponent * exponent s j)))) e ∙ zero-times _) ∙ plus-zero b h)
+
+pub mended-differ : (s : Settings) (j : ℕ) (bs ys : List ℕ) → Bytes bs → length bs ≡ length ys → differ bs (mended s j bs ys) ≤ wrong-places ys
+unfolding mended differ wrong-places
+mended-differ s j [] ys c e = omega arith
+mended-differ s j (b ∷ bs) [] c e = absurd (omega arith)
+mended-differ s j (b ∷ bs) (y ∷ ys) c e =
+    omega (
+      arith,
+      count-le (eqb b (plus b (error-byte s j y))) (eqb y 0) (λ q. eq-eqb _ _ (no-error s j b y (c .0) (eqb-true y 0 q))),
+      mended-differ s (suc j) bs ys (c .1) (omega arith),
+    )
+
+-- and their differences are the weighted errors
+weighted-again :
+    (s : Settings) (j b y : ℕ) → y < 256 → times (plus b (plus b (error-byte s j y))) (power 2 (first-exponent * exponent s j)) ≡ y
+unfolding error-byte
+weighted-again s j b y h =
+    ap (λ (z : ℕ). times z (power 2 (first-exponent * exponent s j))) (plus-again b _ (times-lt _ _))
+    ∙ divide-times y (power 2 (first-exponent * exponent s j)) h (power-lt 2 _) (power-nonzero _)
+
+pub mended-errors :
+    (s : Settings) (m j : ℕ) (bs ys : List ℕ) → length bs ≡ length ys → length bs ≤ m → Bytes ys →
+    ((i k : ℕ) → k ≡ j + i → i < length bs → exponent s k ≡ m - suc i) → errors m bs (mended s j bs ys) ≡ placed s j ys
+unfolding errors mended placed
+mended-errors s zero j [] [] e h c x = refl
+mended-errors s zero j [] (y ∷ ys) e h c x = absurd (omega arith)
+mended-errors s zero j (b ∷ bs) ys e h c x = absurd (omega arith)
+mended-errors s (suc m) j [] [] e h c x = refl
+mended-errors s (suc m) j [] (y ∷ ys) e h c x = absurd (omega arith)
+mended-errors s (suc m) j (b ∷ bs) [] e h c x = absurd (omega arith)
+mended-errors s (suc m) j (b ∷ bs) (y ∷ ys) e h c x =
+    ap₂ _∷_
+    (ap {B = Place} (λ (k : ℕ). record { x = power 2 k; y = times (plus b (plus b (error-byte s j y))) (power 2 (first-exponent * k)) }) (sym top)
+    ∙ ap {B = Place} (λ (z : ℕ). record { x = power 2 (exponent s j); y = z }) (weighted-again s j b y (c .0)))
+    (mended-errors s m (suc j) bs ys (omega arith) (omega arith) (c .1)
+    (λ i k q l. x (suc i) k (omega arith) (omega arith) ∙ (let r : suc m - suc (suc i) ≡ m - suc i = omega arith in r)))
+  where
+    top : exponent s j ≡ m
+    top = x 0 j (omega arith) (omega arith) ∙ (let r : suc m - 1 ≡ m = omega arith in r)

@@ -1,0 +1,140 @@
+-- The places of a plane by their number: n columns, then 2t checks. Weighted errors by number are a list of places, with the
+-- power sums and the count that the definitions give them; and the places of two words have the same powers of 2 by number, so
+-- that the two lists are equal where their weights are. Assumes nothing.
+use mathlib.Core.Path.{_≡_, refl, sym, _∙_, ap, ap₂}
+use mathlib.Core.List.{List, [], _∷_, _++_}
+use Prim.Native.Nat.{ℕ, zero, suc, _+_, _-_, _<_, _≤_}
+use native.Mathlib.Omega.{arith}
+use native.Mathlib.Decide.{decLt}
+use lib.ListN.{length, getD, length-append, List·getD-append}
+use lib.Seq.{getD-append-add, ext-getD}
+use borrow.Author.Tests.{lt-ltb, le-ltb}
+use Rattle.field.specs.Field.{plus, power}
+use Rattle.code.specs.Settings.{Settings, check-count}
+use Rattle.code.proofs.Codewords.Place.{Place, nonzero}
+use Rattle.code.proofs.Codewords.PowerSum.{power-sum}
+use Rattle.code.proofs.Codewords.Errors.{errors}
+use Rattle.code.proofs.ValidSettings.{Sizes}
+use Rattle.code.proofs.Codewords.Word.{Shape, word-errors}
+use Rattle.locator.specs.Errors.{place-exponent, exponent, wrong-places, error-sum}
+
+-- columns and checks
+pub place-exponent-settings : (s : Settings) (j : ℕ) → exponent s j ≡ place-exponent (s .n) (check-count s) j
+unfolding exponent
+place-exponent-settings s j = refl
+
+pub place-exponent-column : (n checks j : ℕ) → j < n → place-exponent n checks j ≡ 254 - j
+unfolding place-exponent
+place-exponent-column n checks j h = rw (lt-ltb j n h)
+
+pub place-exponent-check : (n checks j : ℕ) → n ≤ j → place-exponent n checks j ≡ n + checks - suc j
+unfolding place-exponent
+place-exponent-check n checks j h = rw (le-ltb j n h)
+
+pub exponent-column : (s : Settings) (j : ℕ) → j < s .n → exponent s j ≡ 254 - j
+exponent-column s j h = place-exponent-settings s j ∙ place-exponent-column (s .n) (check-count s) j h
+
+pub exponent-check : (s : Settings) (c : ℕ) → exponent s (s .n + c) ≡ check-count s - suc c
+exponent-check s c = place-exponent-settings s (s .n + c) ∙ place-exponent-check (s .n) (check-count s) (s .n + c) (omega arith) ∙ omega arith
+
+pub by-place :
+    (s : Settings) (P : ℕ → Type 0) → ((j : ℕ) → j < s .n → P j) → ((c : ℕ) → c < check-count s → P (s .n + c)) →
+    (j : ℕ) → j < s .n + check-count s → P j
+by-place s P f g j h = go (decLt j (s .n))
+  where
+    go : Dec (j < s .n) → P j
+    go (yes l) = f j l
+    go (no l) = rw (let e : j ≡ s .n + (j - s .n) = omega arith in e) (g (j - s .n) (omega arith))
+
+-- weighted errors from place j on, as places
+unfoldable pub placed : Settings → (j : ℕ) → (weighted : List ℕ) → List Place
+placed s j [] = []
+placed s j (y ∷ ys) = record { x = power 2 (exponent s j); y = y } ∷ placed s (suc j) ys
+
+pub placed-sum : (s : Settings) (i j : ℕ) (ys : List ℕ) → power-sum i (placed s j ys) ≡ error-sum s i j ys
+unfolding placed power-sum error-sum
+placed-sum s i j [] = refl
+placed-sum s i j (y ∷ ys) = ap (plus _) (placed-sum s i (suc j) ys)
+
+pub placed-nonzero : (s : Settings) (j : ℕ) (ys : List ℕ) → nonzero (placed s j ys) ≡ wrong-places ys
+unfolding placed nonzero wrong-places
+placed-nonzero s j [] = refl
+placed-nonzero s j (y ∷ ys) = ap (_+_ _) (placed-nonzero s (suc j) ys)
+
+pub placed-append : (s : Settings) (j k : ℕ) (xs ys : List ℕ) → k ≡ j + length xs → placed s j (xs ++ ys) ≡ placed s j xs ++ placed s k ys
+unfolding placed
+placed-append s j k [] ys e = ap (λ (i : ℕ). placed s i ys) (let q : j ≡ k = omega arith in q)
+placed-append s j k (x ∷ xs) ys e =
+    let p : Place = record { x = power 2 (exponent s j); y = x } in ap (_∷_ p) (placed-append s (suc j) k xs ys (omega arith))
+
+placed-length : (s : Settings) (j : ℕ) (ys : List ℕ) → length (placed s j ys) ≡ length ys
+unfolding placed
+placed-length s j [] = refl
+placed-length s j (y ∷ ys) = ap suc (placed-length s (suc j) ys)
+
+placed-at :
+    (s : Settings) (i : ℕ) (ys : List ℕ) (j k : ℕ) (p : Place) → k ≡ i + j → j < length ys →
+    getD (placed s i ys) j p ≡ record { x = power 2 (exponent s k); y = getD ys j 0 }
+unfolding placed
+placed-at s i [] j k p e h = absurd (omega arith)
+placed-at s i (y ∷ ys) zero k p e h =
+    ap {B = Place} (λ (m : ℕ). record { x = power 2 (exponent s m); y = y }) (let q : i ≡ k = omega arith in q)
+placed-at s i (y ∷ ys) (suc j) k p e h = placed-at s (suc i) ys j k p (omega arith) (omega arith)
+
+-- the places of two words have the powers of their numbers
+errors-length : (m : ℕ) (us vs : List ℕ) → length us ≤ m → length us ≡ length vs → length (errors m us vs) ≡ length us
+unfolding errors
+errors-length zero [] vs h e = refl
+errors-length zero (u ∷ us) vs h e = absurd (omega arith)
+errors-length (suc k) [] vs h e = refl
+errors-length (suc k) (u ∷ us) [] h e = absurd (omega arith)
+errors-length (suc k) (u ∷ us) (v ∷ vs) h e = ap suc (errors-length k us vs (omega arith) (omega arith))
+
+errors-power :
+    (m : ℕ) (us vs : List ℕ) (j : ℕ) (p : Place) → length us ≤ m → length us ≡ length vs → j < length us →
+    getD (errors m us vs) j p .x ≡ power 2 (m - suc j)
+unfolding errors
+errors-power zero [] vs j p h l k = absurd (omega arith)
+errors-power zero (u ∷ us) vs j p h l k = absurd (omega arith)
+errors-power (suc m) [] vs j p h l k = absurd (omega arith)
+errors-power (suc m) (u ∷ us) [] j p h l k = absurd (omega arith)
+errors-power (suc m) (u ∷ us) (v ∷ vs) zero p h l k = ap (power 2) (let e : m ≡ suc m - 1 = omega arith in e)
+errors-power (suc m) (u ∷ us) (v ∷ vs) (suc j) p h l k =
+    errors-power m us vs j p (omega arith) (omega arith) (omega arith) ∙ ap (power 2) (let e : m - suc j ≡ suc m - suc (suc j) = omega arith in e)
+
+module _ (s : Settings) (bs cs us ds : List ℕ) (z : Sizes s) (v : Shape s bs cs) (w : Shape s us ds) where
+  columns-length : length (errors 255 bs us) ≡ s .n
+  columns-length = errors-length 255 bs us (omega arith) (v .many ∙ sym (w .many)) ∙ v .many
+
+  checks-length : length (errors (check-count s) cs ds) ≡ check-count s
+  checks-length = errors-length (check-count s) cs ds (omega arith) (v .many-checks ∙ sym (w .many-checks)) ∙ v .many-checks
+
+  pub word-errors-length : length (word-errors s bs cs us ds) ≡ s .n + check-count s
+  unfolding word-errors
+  word-errors-length = length-append (errors 255 bs us) (errors (check-count s) cs ds) ∙ ap₂ _+_ columns-length checks-length
+
+  pub word-errors-power : (p : Place) (j : ℕ) → j < s .n + check-count s → getD (word-errors s bs cs us ds) j p .x ≡ power 2 (exponent s j)
+  unfolding word-errors
+  word-errors-power p =
+      by-place s (λ j. getD (errors 255 bs us ++ errors (check-count s) cs ds) j p .x ≡ power 2 (exponent s j))
+      (λ j h.
+      ap (λ (q : Place). q .x) (List·getD-append (errors 255 bs us) (errors (check-count s) cs ds) p j (rw columns-length h))
+      ∙ errors-power 255 bs us j p (omega arith) (v .many ∙ sym (w .many)) (omega arith)
+      ∙ ap (power 2) ((let e : 255 - suc j ≡ 254 - j = omega arith in e) ∙ sym (exponent-column s j h)))
+      (λ c h.
+      ap (λ (i : ℕ). getD (errors 255 bs us ++ errors (check-count s) cs ds) (i + c) p .x) (sym columns-length)
+      ∙ ap (λ (q : Place). q .x) (getD-append-add (errors 255 bs us) (errors (check-count s) cs ds) c p)
+      ∙ errors-power (check-count s) cs ds c p (omega arith) (v .many-checks ∙ sym (w .many-checks)) (omega arith)
+      ∙ ap (power 2) (sym (exponent-check s c)))
+
+  pub placed-word-errors :
+      (p : Place) (ys : List ℕ) → length ys ≡ s .n + check-count s →
+      ((j : ℕ) → j < s .n + check-count s → getD ys j 0 ≡ getD (word-errors s bs cs us ds) j p .y) → placed s 0 ys ≡ word-errors s bs cs us ds
+  placed-word-errors p ys l e =
+      ext-getD p (placed s 0 ys) (word-errors s bs cs us ds) (placed-length s 0 ys ∙ l ∙ sym word-errors-length)
+      (λ j h. at j (rw (placed-length s 0 ys ∙ l) at h))
+    where
+      at : (j : ℕ) → j < s .n + check-count s → getD (placed s 0 ys) j p ≡ getD (word-errors s bs cs us ds) j p
+      at j h =
+          placed-at s 0 ys j j p (omega arith) (omega arith)
+          ∙ ap₂ {C = Place} (λ (a b : ℕ). record { x = a; y = b }) (sym (word-errors-power p j h)) (e j h)

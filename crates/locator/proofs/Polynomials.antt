@@ -1,0 +1,7 @@
+-- Polynomials against sequences, and loops over their coefficients.
+pub mod Raised
+pub mod Monic
+pub mod Against
+pub mod Steps
+pub mod Horner
+pub mod Coefficients

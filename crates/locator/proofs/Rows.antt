@@ -1,0 +1,3 @@
+-- A plane of the rows, read and written byte by byte.
+pub mod Lanes
+pub mod Listing

@@ -1,0 +1,66 @@
+-- A plane of the rows, one more byte at a time: a byte written in a row changes that plane alone, and a plane's wrong places are
+-- counted row by row. Assumes nothing.
+use mathlib.Core.Path.{_≡_, refl, _∙_, ap, subst}
+use mathlib.Core.Bool.{cond}
+use mathlib.Core.List.{List, [], _∷_}
+use Prim.Native.Nat.{ℕ, _+_, _<_}
+use native.Mathlib.Omega.{arith}
+use native.Mathlib.Numerals.{add-one}
+use lib.Dec.{eqb}
+use lib.ListN.{length, getD, set, length-set}
+use lib.Seq.{getD-set-same, getD-set-other}
+use borrow.Author.Count.{below-more}
+use borrow.Author.Tests.{eq-eqb, ne-eqb}
+use Rattle.code.specs.Polynomial.{eval}
+use Rattle.code.specs.Steps.Lanes.{in-row, lane}
+use Rattle.locator.specs.Locator.{value}
+use Rattle.locator.specs.Errors.{wrong-places}
+use Rattle.locator.specs.Plane.{Lane-written}
+use Rattle.code.proofs.Vectors.Lane.{lane-more}
+use Rattle.locator.proofs.Errors.Totals.{wrong-places-append}
+
+-- one more byte of a plane
+pub lane-written-none : (p : ℕ) (f : ℕ → ℕ) (rows : List ℕ) → Lane-written p 0 f rows rows
+lane-written-none p f rows = record { long = refl; new = λ j h. absurd (omega arith); rest = λ i h. refl }
+
+pub lane-written-more :
+    (p many v : ℕ) (f : ℕ → ℕ) (rows now : List ℕ) → Lane-written p many f rows now → in-row many p < length rows → v ≡ f many →
+    Lane-written p (many + 1) f rows (set now (in-row many p) v)
+lane-written-more p many v f rows now w h e =
+    record {
+      long = length-set now (in-row many p) v ∙ w .long;
+      new = below-more _ many passed here;
+      rest = λ i l. getD-set-other now (in-row many p) i v 0 (l many (omega arith)) ∙ w .rest i (λ j k. l j (omega arith));
+    }
+  where
+    passed : (j : ℕ) → j < many → getD (set now (in-row many p) v) (in-row j p) 0 ≡ f j
+    passed j l = getD-set-other now (in-row many p) (in-row j p) v 0 (omega arith) ∙ w .new j l
+
+    here : getD (set now (in-row many p) v) (in-row many p) 0 ≡ f many
+    here = getD-set-same now (in-row many p) v 0 (let g = w .long in omega arith) ∙ e
+
+pub lane-written-to :
+    {p many k : ℕ} {f : ℕ → ℕ} {rows now : List ℕ} → many ≡ k → Lane-written p many f rows now → Lane-written p k f rows now
+lane-written-to {p} {many} {k} {f} {rows} {now} e w = subst (λ (n : ℕ). Lane-written p n f rows now) e w
+
+-- one more row counted
+wrong-places-more :
+    (p many : ℕ) (bs : List ℕ) →
+    wrong-places (lane p (many + 1) bs) ≡ wrong-places (lane p many bs) + cond (eqb (getD bs (in-row many p) 0) 0) 0 1
+unfolding wrong-places
+wrong-places-more p many bs =
+    ap (λ (k : ℕ). wrong-places (lane p k bs)) (add-one many) ∙ ap wrong-places (lane-more p many bs)
+    ∙ wrong-places-append (lane p many bs) (getD bs (in-row many p) 0 ∷ []) ∙ omega arith
+
+pub one-wrong-more :
+    (p many : ℕ) (bs : List ℕ) → (getD bs (in-row many p) 0 ≡ 0 → ⊥) → wrong-places (lane p (many + 1) bs) ≡ wrong-places (lane p many bs) + 1
+one-wrong-more p many bs h = rw (ne-eqb _ _ h) at (wrong-places-more p many bs)
+
+pub none-wrong-more :
+    (p many : ℕ) (bs : List ℕ) → getD bs (in-row many p) 0 ≡ 0 → wrong-places (lane p (many + 1) bs) ≡ wrong-places (lane p many bs)
+none-wrong-more p many bs h = omega (arith, rw (eq-eqb _ _ h) at (wrong-places-more p many bs))
+
+-- the error where a place is no root
+pub value-elsewhere : (S : ℕ → ℕ) (ps : List ℕ) (x : ℕ) → (eval ps x ≡ 0 → ⊥) → value S ps x ≡ 0
+unfolding value
+value-elsewhere S ps x h = rw (ne-eqb (eval ps x) 0 h)

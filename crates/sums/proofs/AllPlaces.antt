@@ -1,0 +1,3 @@
+-- Powers of all places, and polynomials at all places.
+pub mod Powers
+pub mod Polynomials

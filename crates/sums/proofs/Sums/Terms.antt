@@ -1,0 +1,61 @@
+-- A row's terms: its products with the constants that an array holds, and a row of zeros has none. Assumes nothing.
+use mathlib.Core.Path.{_≡_, refl, sym, _∙_, ap}
+use mathlib.Core.List.{List, _++_}
+use Prim.Native.Nat.{ℕ, _+_, _*_, _-_, _≤_, _<_}
+use native.Mathlib.Omega.{arith}
+use lib.ListN.{length, getD, take, drop}
+use lib.Seq.{length-take-le, length-front, take-at, getD-take, getD-drop}
+use Rattle.field.specs.Field.{plus, times}
+use Rattle.field.proofs.Xor.{plus-zero}
+use Rattle.field.proofs.Times.{zero-times}
+use Rattle.code.specs.Size.{row-width}
+use Rattle.code.specs.Steps.Array.{Filled}
+use Rattle.code.proofs.Lists.Part.{part-long}
+use Rattle.code.specs.Steps.Lanes.{in-row, Products-added}
+
+-- row j, lent as a part of the rows
+module _ (rows : List ℕ) (j : ℕ) where
+  pub row-length : row-width * j + row-width ≤ length rows → length (take (row-width * j + row-width - row-width * j) (drop (row-width * j) rows)) ≡ row-width
+  row-length h = part-long (row-width * j) row-width rows h
+
+  pub row-at : (p : ℕ) → p < row-width → getD (take (row-width * j + row-width - row-width * j) (drop (row-width * j) rows)) p 0 ≡ getD rows (in-row j p) 0
+  row-at p h = getD-take (row-width * j + row-width - row-width * j) (drop (row-width * j) rows) p 0 (omega arith) ∙ getD-drop (row-width * j) rows p 0
+
+-- the constants: the first bytes of an array, read as one slice
+pub filled-prefix : (k size : ℕ) (f : ℕ → ℕ) (bytes : List ℕ) → k ≤ size → Filled size size f bytes → Filled k k f (take k bytes)
+filled-prefix k size f bytes h w =
+    record { long = length-take-le k bytes (omega (arith, w .long)); new = λ p l. getD-take k bytes p 0 l ∙ w .new p (omega arith) }
+
+-- or written as one before
+module _ (k : ℕ) (f : ℕ → ℕ) (old new : List ℕ) (h : k ≤ length old) (w : Filled (length (take k old)) (length (take k old)) f new) where
+  pub front-room : k ≤ length (new ++ drop k old)
+  front-room = omega (arith, length-front old new k (w .long))
+
+  pub filled-front : Filled k k f (take k (new ++ drop k old))
+  filled-front =
+      let long : length new ≡ k = w .long ∙ length-take-le k old h in
+      rw (take-at new (drop k old) k long) (record { long = long; new = λ p l. w .new p (rw (length-take-le k old h) l) })
+
+pub products-of-zeros :
+    (row constants sums : List ℕ) → ((i : ℕ) → getD sums i 0 < 256) → ((p : ℕ) → p < row-width → getD row p 0 ≡ 0) → Products-added (length constants) row constants sums sums
+products-of-zeros row constants sums byte z =
+    record {
+      long = refl;
+      sums = λ i p h l.
+          sym (ap (plus (getD sums (in-row i p) 0)) (ap (λ (b : ℕ). times b (getD constants i 0)) (z p l) ∙ zero-times _) ∙ plus-zero _ (byte (in-row i p)));
+      rest = λ i h. refl;
+    }
+
+-- to each of the first rows i of each plane its byte of a row times the constant i is added
+pub record Terms-added (many : ℕ) (constant : ℕ → ℕ) (row sums sums-now : List ℕ) : Type 0 where
+  pub long : length sums-now ≡ length sums
+  pub terms : (i p : ℕ) → i < many → p < row-width → getD sums-now (in-row i p) 0 ≡ plus (getD sums (in-row i p) 0) (times (getD row p 0) (constant i))
+
+pub terms-of-products :
+    (many : ℕ) (constant : ℕ → ℕ) (row constants sums now : List ℕ) → Filled many many constant constants →
+    Products-added (length constants) row constants sums now → Terms-added many constant row sums now
+terms-of-products many constant row constants sums now f a =
+    record {
+      long = a .long;
+      terms = λ i p h l. a .sums i p (omega (arith, f .long)) l ∙ ap (λ (b : ℕ). plus (getD sums (in-row i p) 0) (times (getD row p 0) b)) (f .new i h);
+    }
