@@ -20,9 +20,6 @@ bounds : (c : tie.Else1) → let a = c .before .before .before .before .args in 
 unfolding settings
 bounds c = let z = sizes _ (allowed c) in (z .few-columns, z .few-bad, z .few-bytes)
 
-settings-refusal-requires : tie.Need-settings-refusal-requires
-settings-refusal-requires c κs = search needs
-
 returns : tie.Need-returns
 returns c =
     let a = c .before .before .before .before .args in
@@ -35,9 +32,6 @@ returns-2 : tie.Need-returns-2
 returns-2 c =
     let a = c .before .before .before .before .before .args in
     checks-length (a .n) (a .t) (a .w) (a .vector .now) (a .output .now) (allowed (c .before)) (inl (ne-eqb _ _ (c .if2 .taken)))
-
-mul-if3 : tie.Need-mul-if3
-mul-if3 c = search needs
 
 mul-if3-2 : tie.Need-mul-if3-2
 mul-if3-2 c =
@@ -53,9 +47,6 @@ returns-3 c =
 put-checks-requires : tie.Need-put-checks-requires
 put-checks-requires c κs = (allowed (c .before .before .before), c .before .before .if2 .left, c .before .if3 .left)
 
-same-length : tie.Need-same-length
-same-length c = search needs
-
 returns-4 : tie.Need-returns-4
 returns-4 c =
     let a = c .before .before .before .before .before .before .before .before .before .before .args in
@@ -65,13 +56,13 @@ pub check-values-spec : {M : Type 1} → statement M
 check-values-spec =
     tie.close
     (tie.spec
-    settings-refusal-requires
+    (λ c κs. search needs)
     returns
     mul-if2
     returns-2
-    mul-if3
+    (λ c. search needs)
     mul-if3-2
     returns-3
     put-checks-requires
-    same-length
+    (λ c. search needs)
     returns-4)

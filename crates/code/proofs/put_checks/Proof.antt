@@ -28,15 +28,6 @@ whole : (end : ℕ) (loaded divided : List ℕ) → end ≤ place-rows → lengt
 whole end loaded divided h e l =
     omega (arith, length-append divided (drop end loaded), length-drop end loaded, length-take-le end loaded (omega arith))
 
-powers-requires : tie.Need-powers-requires
-powers-requires c κs = search needs
-
-logarithms-requires : tie.Need-logarithms-requires
-logarithms-requires c κs = search needs
-
-roots-requires : tie.Need-roots-requires
-roots-requires c κs = search needs
-
 mul-count : tie.Need-mul-count
 mul-count c = let z = bounds (c .before .before .before .before .before) in omega arith
 
@@ -87,9 +78,6 @@ store-requires c κs =
     let long = whole (row-width * (f .args .n + 2 * f .args .t)) (c .before .before .before .before .before .before .load .result) (c .before .before .before .divide .last .1 .0) (omega arith) (c .before .before .before .before .before .before .load .ensures .long) (c .before .before .before .divide .ensures .long) in
     (z .0, omega arith, z .2, subst (λ (k : ℕ). row-width * (f .args .n + 2 * f .args .t) ≤ k) long (omega arith), f .pre .2)
 
-same-length : tie.Need-same-length
-same-length c = search needs
-
 returns : tie.Need-returns
 returns c =
     let f = c .before .before .before .before .before .before .before .before .before .before .before .before .before .before .before .before .before .before .before .before .before .before .before .before in
@@ -104,9 +92,9 @@ pub put-checks-spec : {M : Type 1} → statement M
 put-checks-spec =
     tie.close
     (tie.spec
-    powers-requires
-    logarithms-requires
-    roots-requires
+    (λ c κs. search needs)
+    (λ c κs. search needs)
+    (λ c κs. search needs)
     mul-count
     generator-requires
     feedback-requires
@@ -120,5 +108,5 @@ put-checks-spec =
     divide-requires
     slice-aggregate-store
     store-requires
-    same-length
+    (λ c. search needs)
     returns)

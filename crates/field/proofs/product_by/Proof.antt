@@ -15,18 +15,6 @@ returns c = sym (ap (λ (x : ℕ). times x (c .before .args .b)) (c .if1 .taken)
 returns-2 : tie.Need-returns-2
 returns-2 c = sym (ap (times _) (c .if2 .taken) ∙ times-zero _ (omega arith))
 
-element-copy-out-wide : tie.Need-element-copy-out-wide
-element-copy-out-wide c = search needs
-
-wide-requires : tie.Need-wide-requires
-wide-requires c κs = search needs
-
-element-copy-out-wide-2 : tie.Need-element-copy-out-wide-2
-element-copy-out-wide-2 c = search needs
-
-wide-requires-2 : tie.Need-wide-requires-2
-wide-requires-2 c κs = search needs
-
 -- the two exponents that were looked up
 module _ (c : tie.After-wide2) where
   first : power 2 (c .before .before .wide .result) ≡ c .before .before .before .before .before .before .args .a
@@ -55,9 +43,6 @@ add-reduced c = omega (arith, first-small c, second-small c)
 reduced-requires : tie.Need-reduced-requires
 reduced-requires c κs = omega (arith, first-small c, second-small c)
 
-element-copy-out-result : tie.Need-element-copy-out-result
-element-copy-out-result c = search needs
-
 returns-3 : tie.Need-returns-3
 returns-3 c =
     let d = c .before .before in
@@ -70,11 +55,11 @@ product-by-spec =
     (tie.spec
     returns
     returns-2
-    element-copy-out-wide
-    wide-requires
-    element-copy-out-wide-2
-    wide-requires-2
+    (λ c. search needs)
+    (λ c κs. search needs)
+    (λ c. search needs)
+    (λ c κs. search needs)
     add-reduced
     reduced-requires
-    element-copy-out-result
+    (λ c. search needs)
     returns-3)

@@ -15,14 +15,8 @@ Inv-loop value constants rows₀ low high j₀ rows j = (j ≤ length constants)
 abbrev μ-loop : tie.MeasureT-loop
 μ-loop value constants rows₀ low high j₀ rows j = length constants - j
 
-first-rows-requires : tie.Need-first-rows-requires Inv-loop μ-loop
-first-rows-requires c κs = search needs
-
 multiply-requires : tie.Need-multiply-requires Inv-loop μ-loop
 multiply-requires c κs = c .before .first-rows .ensures .long
-
-sixteenth-rows-requires : tie.Need-sixteenth-rows-requires Inv-loop μ-loop
-sixteenth-rows-requires c κs = search needs
 
 multiply-requires-2 : tie.Need-multiply-requires-2 Inv-loop μ-loop
 multiply-requires-2 c κs = c .before .sixteenth-rows .ensures .long
@@ -30,30 +24,12 @@ multiply-requires-2 c κs = c .before .sixteenth-rows .ensures .long
 loop-holds : tie.Need-loop-holds Inv-loop μ-loop
 loop-holds c = (omega arith, products-none _ _ _)
 
-shared-slice-read-c : tie.Need-shared-slice-read-c Inv-loop μ-loop
-shared-slice-read-c c = omega arith
-
 cast-c : tie.Need-cast-c Inv-loop μ-loop
 cast-c c = omega (arith, c .shared-slice-known3 .given (c .before .before .loop .j))
-
-mul-add-multiple : tie.Need-mul-add-multiple Inv-loop μ-loop
-mul-add-multiple c = omega arith
-
-add-multiple-requires : tie.Need-add-multiple-requires Inv-loop μ-loop
-add-multiple-requires c κs = search needs
-
-mul-add-multiple-2 : tie.Need-mul-add-multiple-2 Inv-loop μ-loop
-mul-add-multiple-2 c = omega arith
 
 add-multiple-requires-2 : tie.Need-add-multiple-requires-2 Inv-loop μ-loop
 add-multiple-requires-2 c κs =
     omega (arith, c .before .before .before .before .before .before .before .shared-slice-known3 .given (c .before .before .before .before .before .before .before .before .before .loop .j), c .before .before .before .before .add-multiple .ensures .long)
-
-add-j : tie.Need-add-j Inv-loop μ-loop
-add-j c = omega arith
-
-loop-less : tie.Need-loop-less Inv-loop μ-loop
-loop-less c = omega arith
 
 loop-again : tie.Need-loop-again Inv-loop μ-loop
 loop-again c =
@@ -78,19 +54,19 @@ add-by-tables-spec =
     (tie.spec
     Inv-loop
     μ-loop
-    first-rows-requires
+    (λ c κs. search needs)
     multiply-requires
-    sixteenth-rows-requires
+    (λ c κs. search needs)
     multiply-requires-2
     loop-holds
-    shared-slice-read-c
+    (λ c. omega arith)
     cast-c
-    mul-add-multiple
-    add-multiple-requires
-    mul-add-multiple-2
+    (λ c. omega arith)
+    (λ c κs. search needs)
+    (λ c. omega arith)
     add-multiple-requires-2
-    add-j
-    loop-less
+    (λ c. omega arith)
+    (λ c. omega arith)
     loop-again
     same-length
     returns)

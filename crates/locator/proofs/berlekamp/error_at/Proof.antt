@@ -18,35 +18,14 @@ abbrev μ-loop : tie.MeasureT-loop
 loop-holds : tie.Need-loop-holds Inv-loop μ-loop
 loop-holds c = divided-end (c .before .before .args .locator .now) (entries (c .before .before .args .sums .now)) (c .before .before .args .x)
 
-sub-m : tie.Need-sub-m Inv-loop μ-loop
-sub-m c = omega arith
-
-shared-slice-read-product-by : tie.Need-shared-slice-read-product-by Inv-loop μ-loop
-shared-slice-read-product-by c = omega arith
-
 product-by-requires : tie.Need-product-by-requires Inv-loop μ-loop
 product-by-requires c κs = c .before .before .before .before .before .pre .0
-
-sum-requires : tie.Need-sum-requires Inv-loop μ-loop
-sum-requires c κs = tt
 
 product-by-requires-2 : tie.Need-product-by-requires-2 Inv-loop μ-loop
 product-by-requires-2 c κs = c .before .before .before .before .before .before .before .pre .0
 
-sum-requires-2 : tie.Need-sum-requires-2 Inv-loop μ-loop
-sum-requires-2 c κs = tt
-
-shared-slice-read-sum : tie.Need-shared-slice-read-sum Inv-loop μ-loop
-shared-slice-read-sum c = omega arith
-
 product-by-requires-3 : tie.Need-product-by-requires-3 Inv-loop μ-loop
 product-by-requires-3 c κs = c .before .before .before .before .before .before .before .before .before .before .pre .0
-
-sum-requires-3 : tie.Need-sum-requires-3 Inv-loop μ-loop
-sum-requires-3 c κs = tt
-
-loop-less : tie.Need-loop-less Inv-loop μ-loop
-loop-less c = omega arith
 
 loop-again : tie.Need-loop-again Inv-loop μ-loop
 loop-again c =
@@ -83,16 +62,16 @@ error-at-spec =
     Inv-loop
     μ-loop
     loop-holds
-    sub-m
-    shared-slice-read-product-by
+    (λ c. omega arith)
+    (λ c. omega arith)
     product-by-requires
-    sum-requires
+    (λ c κs. tt)
     product-by-requires-2
-    sum-requires-2
-    shared-slice-read-sum
+    (λ c κs. tt)
+    (λ c. omega arith)
     product-by-requires-3
-    sum-requires-3
-    loop-less
+    (λ c κs. tt)
+    (λ c. omega arith)
     loop-again
     inverse-by-requires
     product-by-requires-4

@@ -24,53 +24,17 @@ abbrev μ-loop : tie.MeasureT-loop
 inverse-by-requires : tie.Need-inverse-by-requires Inv-loop μ-loop
 inverse-by-requires c κs = c .pre .0
 
-add-shift : tie.Need-add-shift Inv-loop μ-loop
-add-shift c = omega arith
-
-mul-shift : tie.Need-mul-shift Inv-loop μ-loop
-mul-shift c = omega arith
-
-sub-shift : tie.Need-sub-shift Inv-loop μ-loop
-sub-shift c = omega arith
-
-add-i : tie.Need-add-i Inv-loop μ-loop
-add-i c = omega arith
-
-sub-i : tie.Need-sub-i Inv-loop μ-loop
-sub-i c = omega arith
-
 loop-holds : tie.Need-loop-holds Inv-loop μ-loop
 loop-holds c = (omega arith, remade-none _ _ _, remade-none _ _ _)
-
-sub-i-2 : tie.Need-sub-i-2 Inv-loop μ-loop
-sub-i-2 c = omega arith
-
-element-copy-out-last : tie.Need-element-copy-out-last Inv-loop μ-loop
-element-copy-out-last c = omega arith
 
 raised-at-requires : tie.Need-raised-at-requires Inv-loop μ-loop
 raised-at-requires c κs = (omega arith, omega arith)
 
-element-copy-out-product-by : tie.Need-element-copy-out-product-by Inv-loop μ-loop
-element-copy-out-product-by c = omega arith
-
 product-by-requires : tie.Need-product-by-requires Inv-loop μ-loop
 product-by-requires c κs = c .before .before .before .before .before .before .before .pre .0
 
-sum-requires : tie.Need-sum-requires Inv-loop μ-loop
-sum-requires c κs = tt
-
-element-write-locator : tie.Need-element-write-locator Inv-loop μ-loop
-element-write-locator c = omega arith
-
 product-by-requires-2 : tie.Need-product-by-requires-2 Inv-loop μ-loop
 product-by-requires-2 c κs = c .before .before .before .before .before .before .before .before .before .pre .0
-
-element-write-before : tie.Need-element-write-before Inv-loop μ-loop
-element-write-before c = omega arith
-
-loop-less : tie.Need-loop-less Inv-loop μ-loop
-loop-less c = omega arith
 
 loop-again : tie.Need-loop-again Inv-loop μ-loop
 loop-again c =
@@ -109,21 +73,21 @@ lengthen-spec =
     Inv-loop
     μ-loop
     inverse-by-requires
-    add-shift
-    mul-shift
-    sub-shift
-    add-i
-    sub-i
+    (λ c. omega arith)
+    (λ c. omega arith)
+    (λ c. omega arith)
+    (λ c. omega arith)
+    (λ c. omega arith)
     loop-holds
-    sub-i-2
-    element-copy-out-last
+    (λ c. omega arith)
+    (λ c. omega arith)
     raised-at-requires
-    element-copy-out-product-by
+    (λ c. omega arith)
     product-by-requires
-    sum-requires
-    element-write-locator
+    (λ c κs. tt)
+    (λ c. omega arith)
     product-by-requires-2
-    element-write-before
-    loop-less
+    (λ c. omega arith)
+    (λ c. omega arith)
     loop-again
     returns)

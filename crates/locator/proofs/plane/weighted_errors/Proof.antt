@@ -18,9 +18,6 @@ Inv-loop powers logarithms locator sums places values p weighted₀ many at i₀
 abbrev μ-loop : tie.MeasureT-loop
 μ-loop powers logarithms locator sums places values p weighted₀ many at i₀ weighted i = many - i
 
-root-places-requires : tie.Need-root-places-requires Inv-loop μ-loop
-root-places-requires c κs = omega arith
-
 loop-holds : tie.Need-loop-holds Inv-loop μ-loop
 loop-holds c = (omega arith, listed-written-none _ _ _ _)
 
@@ -51,12 +48,6 @@ add-weighted c = let bounds = c .before .before .before .before .before .before 
 slice-write-weighted : tie.Need-slice-write-weighted Inv-loop μ-loop
 slice-write-weighted c = let bounds = c .before .before .before .before .before .before .before .before .before .before .before .pre .1 in omega (arith, inside c, c .before .before .before .loop .inv .1 .long)
 
-add-i : tie.Need-add-i Inv-loop μ-loop
-add-i c = omega arith
-
-loop-less : tie.Need-loop-less Inv-loop μ-loop
-loop-less c = omega arith
-
 loop-again : tie.Need-loop-again Inv-loop μ-loop
 loop-again c =
     let bounds = c .before .before .before .before .before .before .before .before .before .before .before .pre .1 in
@@ -79,7 +70,7 @@ weighted-errors-spec =
     (tie.spec
     Inv-loop
     μ-loop
-    root-places-requires
+    (λ c κs. omega arith)
     loop-holds
     mul-j
     array-read-j
@@ -88,8 +79,8 @@ weighted-errors-spec =
     mul-weighted
     add-weighted
     slice-write-weighted
-    add-i
-    loop-less
+    (λ c. omega arith)
+    (λ c. omega arith)
     loop-again
     same-length
     returns)

@@ -18,9 +18,6 @@ abbrev μ-loop : tie.MeasureT-loop
 loop-holds : tie.Need-loop-holds Inv-loop μ-loop
 loop-holds c = (omega arith, omega arith, values-none _ _ _ _ refl refl)
 
-mul-sum-bytes : tie.Need-mul-sum-bytes Inv-loop μ-loop
-mul-sum-bytes c = omega arith
-
 sum-bytes-requires : tie.Need-sum-bytes-requires Inv-loop μ-loop
 sum-bytes-requires c κs =
     let l = c .before .before .loop in
@@ -33,12 +30,6 @@ add-from : tie.Need-add-from Inv-loop μ-loop
 add-from c =
     let s = c .before .before .before .before .before .before in
     omega (arith, value-within (c .before .before .before .loop .c) (s .args .count) (s .args .size) _ (c .before .before .loop-test .taken) (s .pre .2))
-
-add-c : tie.Need-add-c Inv-loop μ-loop
-add-c c = omega arith
-
-loop-less : tie.Need-loop-less Inv-loop μ-loop
-loop-less c = omega arith
 
 loop-again : tie.Need-loop-again Inv-loop μ-loop
 loop-again c =
@@ -59,10 +50,10 @@ difference-spec =
     Inv-loop
     μ-loop
     loop-holds
-    mul-sum-bytes
+    (λ c. omega arith)
     sum-bytes-requires
     add-from
-    add-c
-    loop-less
+    (λ c. omega arith)
+    (λ c. omega arith)
     loop-again
     returns)

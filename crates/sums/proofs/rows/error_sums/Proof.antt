@@ -19,35 +19,11 @@ abbrev μ-loop : tie.MeasureT-loop
 loop-holds : tie.Need-loop-holds Inv-loop μ-loop
 loop-holds c = (omega arith, error-sums-none _ _ _ _ refl refl)
 
-add-loop : tie.Need-add-loop Inv-loop μ-loop
-add-loop c = omega arith
-
-place-exponent-requires : tie.Need-place-exponent-requires Inv-loop μ-loop
-place-exponent-requires c κs = omega arith
-
-array-borrow-prefix-constants : tie.Need-array-borrow-prefix-constants Inv-loop μ-loop
-array-borrow-prefix-constants c = search needs
-
 slice-aggregate-progression : tie.Need-slice-aggregate-progression Inv-loop μ-loop
 slice-aggregate-progression c = sym (length-take-le _ _ (c .before .before .before .before .before .pre .2))
 
 progression-requires : tie.Need-progression-requires Inv-loop μ-loop
 progression-requires c κs = (c .before .before .before .before .before .pre .0, omega arith, c .before .place-exponent .ensures .0)
-
-mul-at : tie.Need-mul-at Inv-loop μ-loop
-mul-at c = omega arith
-
-add-end : tie.Need-add-end Inv-loop μ-loop
-add-end c = omega arith
-
-sub-add-row : tie.Need-sub-add-row Inv-loop μ-loop
-sub-add-row c = omega arith
-
-part-add-row-start : tie.Need-part-add-row-start Inv-loop μ-loop
-part-add-row-start c = omega arith
-
-part-add-row-end : tie.Need-part-add-row-end Inv-loop μ-loop
-part-add-row-end c = omega arith
 
 array-share-prefix-constants : tie.Need-array-share-prefix-constants Inv-loop μ-loop
 array-share-prefix-constants c = front-room _ _ _ _ (c .before .before .before .before .before .before .before .before .pre .2) (c .before .before .progression .ensures)
@@ -64,12 +40,6 @@ add-row-requires c κs =
     let s = c .before .before .before .before .before .before .before .before .before .before in
     let f = filled-front _ _ _ _ (s .pre .2) (c .before .before .before .before .progression .ensures) in
     (row-length (s .args .weighted .now) (l .j) (omega arith), rw (f .long) (omega (arith, l .inv .1 .long)))
-
-add-j : tie.Need-add-j Inv-loop μ-loop
-add-j c = omega arith
-
-loop-less : tie.Need-loop-less Inv-loop μ-loop
-loop-less c = omega arith
 
 loop-again : tie.Need-loop-again Inv-loop μ-loop
 loop-again c =
@@ -91,21 +61,21 @@ error-sums-spec =
     Inv-loop
     μ-loop
     loop-holds
-    add-loop
-    place-exponent-requires
-    array-borrow-prefix-constants
+    (λ c. omega arith)
+    (λ c κs. omega arith)
+    (λ c. search needs)
     slice-aggregate-progression
     progression-requires
-    mul-at
-    add-end
-    sub-add-row
-    part-add-row-start
-    part-add-row-end
+    (λ c. omega arith)
+    (λ c. omega arith)
+    (λ c. omega arith)
+    (λ c. omega arith)
+    (λ c. omega arith)
     array-share-prefix-constants
     slice-aggregate-add-row
     slice-aggregate-add-row-2
     add-row-requires
-    add-j
-    loop-less
+    (λ c. omega arith)
+    (λ c. omega arith)
     loop-again
     returns)

@@ -20,29 +20,8 @@ root-logarithms-requires c κs = c .before .pre .1
 loop-holds : tie.Need-loop-holds Inv-loop μ-loop
 loop-holds c = (omega arith, check-sums-none _ _ _ refl refl)
 
-sub-root-powers : tie.Need-sub-root-powers Inv-loop μ-loop
-sub-root-powers c = omega arith
-
-sub-root-powers-2 : tie.Need-sub-root-powers-2 Inv-loop μ-loop
-sub-root-powers-2 c = omega arith
-
 root-powers-requires : tie.Need-root-powers-requires Inv-loop μ-loop
 root-powers-requires c κs = (c .before .before .before .before .before .pre .0, c .before .before .before .root-logarithms .ensures, omega arith)
-
-mul-at : tie.Need-mul-at Inv-loop μ-loop
-mul-at c = omega arith
-
-add-end : tie.Need-add-end Inv-loop μ-loop
-add-end c = omega arith
-
-sub-add-row : tie.Need-sub-add-row Inv-loop μ-loop
-sub-add-row c = omega arith
-
-part-add-row-start : tie.Need-part-add-row-start Inv-loop μ-loop
-part-add-row-start c = omega arith
-
-part-add-row-end : tie.Need-part-add-row-end Inv-loop μ-loop
-part-add-row-end c = omega arith
 
 array-share-prefix-constants : tie.Need-array-share-prefix-constants Inv-loop μ-loop
 array-share-prefix-constants c = omega (arith, c .before .root-powers .ensures .long)
@@ -60,12 +39,6 @@ add-row-requires c κs =
     let s = c .before .before .before .before .before .before .before .before .before in
     let f = filled-prefix _ _ _ _ (s .pre .2) (c .before .before .before .root-powers .ensures) in
     (row-length (s .args .difference .now) (l .c) (omega arith), rw (f .long) (omega (arith, l .inv .1 .long)))
-
-add-c : tie.Need-add-c Inv-loop μ-loop
-add-c c = omega arith
-
-loop-less : tie.Need-loop-less Inv-loop μ-loop
-loop-less c = omega arith
 
 loop-again : tie.Need-loop-again Inv-loop μ-loop
 loop-again c =
@@ -86,19 +59,19 @@ syndromes-spec =
     μ-loop
     root-logarithms-requires
     loop-holds
-    sub-root-powers
-    sub-root-powers-2
+    (λ c. omega arith)
+    (λ c. omega arith)
     root-powers-requires
-    mul-at
-    add-end
-    sub-add-row
-    part-add-row-start
-    part-add-row-end
+    (λ c. omega arith)
+    (λ c. omega arith)
+    (λ c. omega arith)
+    (λ c. omega arith)
+    (λ c. omega arith)
     array-share-prefix-constants
     slice-aggregate-add-row
     slice-aggregate-add-row-2
     add-row-requires
-    add-c
-    loop-less
+    (λ c. omega arith)
+    (λ c. omega arith)
     loop-again
     returns)
