@@ -13,7 +13,7 @@ use Rattle.code.proofs.check_values.Statement.{statement}
 use Rattle.code.proofs.check_values.Tie as tie
 
 -- settings that are not refused, and their sizes
-allowed : (c : tie.Else1) → settings-refusal (settings (c .before .before .before .before .args .n) (c .before .before .before .before .args .t) (c .before .before .before .before .args .w)) ≡ 0
+allowed : (c : tie.Else1) → let a = c .before .before .before .before .args in settings-refusal (settings (a .n) (a .t) (a .w)) ≡ 0
 allowed c = sym (c .before .settings-refusal .ensures) ∙ c .if1 .left
 
 bounds : (c : tie.Else1) → let a = c .before .before .before .before .args in (a .n ≤ most-columns) × (3 * a .t + 1 ≤ a .n) × (a .w ≤ value-room)
@@ -41,16 +41,19 @@ mul-if3-2 c =
 
 returns-3 : tie.Need-returns-3
 returns-3 c =
-    let a = c .before .before .before .before .before .before .args in
-    checks-length (a .n) (a .t) (a .w) (a .vector .now) (a .output .now) (allowed (c .before .before)) (inr (lt-ltb _ _ (c .if3 .taken)))
+    let known = c .before .before in
+    let a = known .before .before .before .before .args in
+    checks-length (a .n) (a .t) (a .w) (a .vector .now) (a .output .now) (allowed known) (inr (lt-ltb _ _ (c .if3 .taken)))
 
 put-checks-requires : tie.Need-put-checks-requires
 put-checks-requires c κs = (allowed (c .before .before .before), c .before .before .if2 .left, c .before .if3 .left)
 
 returns-4 : tie.Need-returns-4
 returns-4 c =
-    let a = c .before .before .before .before .before .before .before .before .before .before .args in
-    checks-done (a .n) (a .t) (a .w) (a .vector .now) (a .output .now) _ (allowed (c .before .before .before .before .before .before)) (c .before .before .before .before .before .if2 .left) (c .before .before .before .before .if3 .left) (c .before .before .put-checks .ensures)
+    let fits = c .before .before .before .before in
+    let known = fits .before .before in
+    let a = known .before .before .before .before .args in
+    checks-done (a .n) (a .t) (a .w) (a .vector .now) (a .output .now) _ (allowed known) (fits .before .if2 .left) (fits .if3 .left) (c .before .before .put-checks .ensures)
 
 pub check-values-spec : {M : Type 1} → statement M
 check-values-spec =

@@ -28,65 +28,94 @@ whole : (end : ℕ) (loaded divided : List ℕ) → end ≤ place-rows → lengt
 whole end loaded divided h e l =
     omega (arith, length-append divided (drop end loaded), length-drop end loaded, length-take-le end loaded (omega arith))
 
+-- the ways back to the start, call by call
+abbrev start : tie.After-roots → tie.Start
+start c = c .before .before .before .before .before
+
+abbrev roots-of : tie.After-generator2 → tie.After-roots
+roots-of c = c .before .before .before .before .before
+
+abbrev generator-of : tie.After-load → tie.After-generator2
+generator-of c = c .before .before .before .before .before
+
+abbrev loaded-from : tie.After-load → tie.Start
+loaded-from c = start (roots-of (generator-of c))
+
 mul-count : tie.Need-mul-count
-mul-count c = let z = bounds (c .before .before .before .before .before) in omega arith
+mul-count c = let z = bounds (start c) in omega arith
 
 generator-requires : tie.Need-generator-requires
-generator-requires c κs = let z = bounds (c .before .before .before .before .before .before .before .before .before) in (c .before .before .before .before .before .before .powers .ensures, c .before .before .before .before .before .logarithms .ensures, c .before .before .before .before .roots .ensures, omega arith, refl)
+generator-requires c κs =
+    let roots = c .before .before .before .before in
+    let z = bounds (start roots) in
+    (roots .before .before .powers .ensures, roots .before .logarithms .ensures, roots .roots .ensures, omega arith, refl)
 
 feedback-requires : tie.Need-feedback-requires
-feedback-requires c κs = let z = bounds (c .before .before .before .before .before .before .before .before .before .before .before .before .before) in (c .before .before .before .before .before .before .before .before .before .before .powers .ensures, c .before .before .before .before .before .before .before .before .before .logarithms .ensures, omega arith)
+feedback-requires c κs =
+    let roots = roots-of (c .before .before .before) in
+    let z = bounds (start roots) in
+    (roots .before .before .powers .ensures, roots .before .logarithms .ensures, omega arith)
 
 load-requires : tie.Need-load-requires
-load-requires c κs = let z = bounds (c .before .before .before .before .before .before .before .before .before .before .before .before .before .before) in (z .0, z .2, c .before .before .before .before .before .before .before .before .before .before .before .before .before .before .pre .1)
+load-requires c κs = let s = start (roots-of (c .before .before .before .before)) in let z = bounds s in (z .0, z .2, s .pre .1)
 
 add-end : tie.Need-add-end
-add-end c = let z = bounds (c .before .before .before .before .before .before .before .before .before .before .before .before .before .before .before) in omega arith
+add-end c = let z = bounds (loaded-from c) in omega arith
 
 mul-end : tie.Need-mul-end
-mul-end c = let z = bounds (c .before .before .before .before .before .before .before .before .before .before .before .before .before .before .before) in omega arith
+mul-end c = let z = bounds (loaded-from c) in omega arith
 
 array-share-prefix-feedback : tie.Need-array-share-prefix-feedback
-array-share-prefix-feedback c = let z = bounds (c .before .before .before .before .before .before .before .before .before .before .before .before .before .before .before) in omega (arith, c .before .feedback .ensures .long)
+array-share-prefix-feedback c = let z = bounds (loaded-from c) in omega (arith, c .before .feedback .ensures .long)
 
 slice-aggregate-divide : tie.Need-slice-aggregate-divide
-slice-aggregate-divide c = let z = bounds (c .before .before .before .before .before .before .before .before .before .before .before .before .before .before .before .before) in sym (length-take-le _ _ (omega (arith, c .before .before .feedback .ensures .long)))
+slice-aggregate-divide c = let z = bounds (loaded-from (c .before)) in sym (length-take-le _ _ (omega (arith, c .before .before .feedback .ensures .long)))
 
 array-borrow-prefix-rows : tie.Need-array-borrow-prefix-rows
-array-borrow-prefix-rows c = let z = bounds (c .before .before .before .before .before .before .before .before .before .before .before .before .before .before .before .before) in omega (arith, c .before .load .ensures .long)
+array-borrow-prefix-rows c = let z = bounds (loaded-from (c .before)) in omega (arith, c .before .load .ensures .long)
 
 slice-aggregate-divide-2 : tie.Need-slice-aggregate-divide-2
-slice-aggregate-divide-2 c = let z = bounds (c .before .before .before .before .before .before .before .before .before .before .before .before .before .before .before .before .before) in sym (length-take-le _ _ (omega (arith, c .before .before .load .ensures .long)))
+slice-aggregate-divide-2 c = let z = bounds (loaded-from (c .before .before)) in sym (length-take-le _ _ (omega (arith, c .before .before .load .ensures .long)))
 
 divide-requires : tie.Need-divide-requires
 divide-requires c κs =
-    let z = bounds (c .before .before .before .before .before .before .before .before .before .before .before .before .before .before .before .before .before) in
-    let hs = length-take-le (2 * c .before .before .before .before .before .before .before .before .before .before .before .before .before .before .before .before .before .args .t) (c .before .before .before .feedback .result) (omega (arith, c .before .before .before .feedback .ensures .long)) in
-    let part = length-take-le (row-width * (c .before .before .before .before .before .before .before .before .before .before .before .before .before .before .before .before .before .args .n + 2 * c .before .before .before .before .before .before .before .before .before .before .before .before .before .before .before .before .before .args .t)) (c .before .before .load .result) (omega (arith, c .before .before .load .ensures .long)) in
+    let loaded = c .before .before in
+    let s = loaded-from loaded in
+    let z = bounds s in
+    let hs = length-take-le (2 * s .args .t) (loaded .before .feedback .result) (omega (arith, loaded .before .feedback .ensures .long)) in
+    let part = length-take-le (row-width * (s .args .n + 2 * s .args .t)) (loaded .load .result) (omega (arith, loaded .load .ensures .long)) in
     (z .0, omega arith, omega arith)
 
 slice-aggregate-store : tie.Need-slice-aggregate-store
 slice-aggregate-store c =
-    let f = c .before .before .before .before .before .before .before .before .before .before .before .before .before .before .before .before .before .before .before .before in
-    let z = bounds f in
-    whole (row-width * (f .args .n + 2 * f .args .t)) (c .before .before .before .before .before .load .result) (c .before .before .divide .last .1 .0) (omega arith) (c .before .before .before .before .before .load .ensures .long) (c .before .before .divide .ensures .long)
+    let loaded = c .before .before .before .before .before in
+    let s = loaded-from loaded in
+    let z = bounds s in
+    whole (row-width * (s .args .n + 2 * s .args .t)) (loaded .load .result) (c .before .before .divide .last .1 .0) (omega arith) (loaded .load .ensures .long) (c .before .before .divide .ensures .long)
 
 store-requires : tie.Need-store-requires
 store-requires c κs =
-    let f = c .before .before .before .before .before .before .before .before .before .before .before .before .before .before .before .before .before .before .before .before .before in
-    let z = bounds f in
-    let long = whole (row-width * (f .args .n + 2 * f .args .t)) (c .before .before .before .before .before .before .load .result) (c .before .before .before .divide .last .1 .0) (omega arith) (c .before .before .before .before .before .before .load .ensures .long) (c .before .before .before .divide .ensures .long) in
-    (z .0, omega arith, z .2, subst (λ (k : ℕ). row-width * (f .args .n + 2 * f .args .t) ≤ k) long (omega arith), f .pre .2)
+    let divided = c .before .before .before in
+    let loaded = divided .before .before .before in
+    let s = loaded-from loaded in
+    let z = bounds s in
+    let end = row-width * (s .args .n + 2 * s .args .t) in
+    let long = whole end (loaded .load .result) (divided .divide .last .1 .0) (omega arith) (loaded .load .ensures .long) (divided .divide .ensures .long) in
+    (z .0, omega arith, z .2, subst (λ (k : ℕ). end ≤ k) long (omega arith), s .pre .2)
 
 returns : tie.Need-returns
 returns c =
-    let f = c .before .before .before .before .before .before .before .before .before .before .before .before .before .before .before .before .before .before .before .before .before .before .before .before in
-    let z = bounds f in
-    let a = f .args in
-    checks-put (a .n) (a .t) (a .w) (a .vector .now) (c .before .before .before .before .before .before .before .before .before .before .feedback .result) (c .before .before .before .before .before .before .before .before .before .load .result) (c .before .before .before .before .before .before .divide .last .1 .0) _ (a .output .now) _ (f .pre .0) (f .pre .1)
-    (bytes-every (a .vector .now) (λ i. c .before .before .before .before .before .before .before .before .before .before .before .before .before .before .before .before .before .before .before .before .before .before .before .shared-slice-known .given i .fits))
-    (feedback-filled (2 * a .t) _ _ (omega arith) (c .before .before .before .before .before .before .before .before .before .before .before .before .before .before .generator2 .ensures) (c .before .before .before .before .before .before .before .before .before .before .feedback .ensures)) (c .before .before .before .before .before .before .before .before .before .load .ensures) (c .before .before .before .before .before .before .divide .ensures) refl
-    (c .before .before .store .ensures) (f .pre .2) (bytes-every (c .before .before .store .last .1 .1 .1 .1 .0) (λ i. c .slice-known2 .given i .fits))
+    let stored = c .before .before in
+    let divided = stored .before .before .before .before in
+    let loaded = divided .before .before .before in
+    let made = generator-of loaded in
+    let s = loaded-from loaded in
+    let z = bounds s in
+    let a = s .args in
+    checks-put (a .n) (a .t) (a .w) (a .vector .now) (loaded .before .feedback .result) (loaded .load .result) (divided .divide .last .1 .0) _ (a .output .now) _ (s .pre .0) (s .pre .1)
+    (bytes-every (a .vector .now) (λ i. roots-of made .before .before .before .before .shared-slice-known .given i .fits))
+    (feedback-filled (2 * a .t) _ _ (omega arith) (made .generator2 .ensures) (loaded .before .feedback .ensures)) (loaded .load .ensures) (divided .divide .ensures) refl
+    (stored .store .ensures) (s .pre .2) (bytes-every (stored .store .last .1 .1 .1 .1 .0) (λ i. c .slice-known2 .given i .fits))
 
 pub put-checks-spec : {M : Type 1} → statement M
 put-checks-spec =

@@ -20,9 +20,10 @@ loop-holds c = (omega arith, products-none _ _ _)
 
 loop-again : tie.Need-loop-again Inv-loop μ-loop
 loop-again c =
-    let l = c .before .before .before .before .before .before .before in (
+    let added = c .before .before in
+    let l = added .before .before .before .before .before in (
       omega arith,
-      products-next _ _ _ _ _ _ _ (l .loop .inv .1) (c .before .before .add-product .ensures _ (l .before .doublings .ensures)) (λ p h. refl),
+      products-next _ _ _ _ _ _ _ (l .loop .inv .1) (added .add-product .ensures _ (l .before .doublings .ensures)) (λ p h. refl),
     )
 
 same-length : tie.Need-same-length Inv-loop μ-loop

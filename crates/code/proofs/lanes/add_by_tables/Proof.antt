@@ -27,19 +27,30 @@ loop-holds c = (omega arith, products-none _ _ _)
 cast-c : tie.Need-cast-c Inv-loop μ-loop
 cast-c c = omega (arith, c .shared-slice-known3 .given (c .before .before .loop .j))
 
+-- where the row of a low multiple was added, and where its constant was read
+abbrev low-added : tie.After-high2 Inv-loop μ-loop → tie.After-add-multiple Inv-loop μ-loop
+low-added c = c .before .before .before .before
+
+abbrev constant-read : tie.After-add-multiple Inv-loop μ-loop → tie.After-shared-slice-known3 Inv-loop μ-loop
+constant-read c = c .before .before .before
+
 add-multiple-requires-2 : tie.Need-add-multiple-requires-2 Inv-loop μ-loop
 add-multiple-requires-2 c κs =
-    omega (arith, c .before .before .before .before .before .before .before .shared-slice-known3 .given (c .before .before .before .before .before .before .before .before .before .loop .j), c .before .before .before .before .add-multiple .ensures .long)
+    omega (arith, constant-read (low-added c) .shared-slice-known3 .given (constant-read (low-added c) .before .before .loop .j), low-added c .add-multiple .ensures .long)
 
 loop-again : tie.Need-loop-again Inv-loop μ-loop
 loop-again c =
-    let l = c .before .before .before .before .before .before .before .before .before .before .before .before in
-    let byte = c .before .before .before .before .before .before .before .before .before .before .before .before .before .before .before .before .before .before .before .before .before .before .shared-slice-known .given in (
+    let low = low-added (c .before .before .before) in
+    let read = constant-read low in
+    let l = read .before .before in
+    let sixteenths = l .before .before .before in
+    let firsts = sixteenths .before .before .before .before in
+    let byte = firsts .before .before .before .shared-slice-known .given in (
       omega arith,
-      products-more _ _ _ _ _ _ _ _ _ (λ p. byte p .fits) (c .before .before .before .before .before .before .before .before .before .before .shared-slice-known3 .given (l .loop .j) .fits)
-          (c .before .before .before .before .before .before .before .before .before .before .before .before .before .before .before .before .before .multiply .ensures .1 _ (λ p. byte p .fits) (c .before .before .before .before .before .before .before .before .before .before .before .before .before .before .before .before .before .before .before .first-rows .ensures))
-          (l .before .multiply2 .ensures .1 _ (λ p. doubled-byte _) (c .before .before .before .before .before .before .before .before .before .before .before .before .before .before .before .sixteenth-rows .ensures))
-          (l .loop .inv .1) (c .before .before .before .before .before .before .before .add-multiple .ensures) (c .before .before .add-multiple2 .ensures),
+      products-more _ _ _ _ _ _ _ _ _ (λ p. byte p .fits) (read .shared-slice-known3 .given (l .loop .j) .fits)
+          (sixteenths .before .before .multiply .ensures .1 _ (λ p. byte p .fits) (firsts .first-rows .ensures))
+          (l .before .multiply2 .ensures .1 _ (λ p. doubled-byte _) (sixteenths .sixteenth-rows .ensures))
+          (l .loop .inv .1) (low .add-multiple .ensures) (c .before .before .add-multiple2 .ensures),
     )
 
 same-length : tie.Need-same-length Inv-loop μ-loop

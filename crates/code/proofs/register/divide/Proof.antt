@@ -21,7 +21,8 @@ loop-holds c = (omega arith, refl, divided-none _ _ _ (λ i. c .slice-known .giv
 
 loop-again : tie.Need-loop-again Inv-loop μ-loop
 loop-again c =
-    let l = c .before .before .before .before .before .before .before .before in
+    let row = c .before .before .before .before .before in
+    let l = row .before .before .before in
     let f = l .before .before in
     let hs = f .before .args .feedback .now in
     let s = l .loop .s in (
@@ -29,7 +30,7 @@ loop-again c =
       refl,
       divided-part s (f .before .args .n + length hs) (row-width * s + row-width + row-width * length hs - (row-width * s + row-width)) hs _ _ (l .loop .rows) _ (omega arith) (omega arith)
           (omega (arith, l .loop .inv .2 .long)) (bytes-every hs (λ i. f .shared-slice-known .given i .fits)) (l .loop .inv .2)
-          (λ i. c .slice-known2 .given i .fits) (c .before .before .before .before .before .row .ensures) (c .before .before .add-products .ensures),
+          (λ i. c .slice-known2 .given i .fits) (row .row .ensures) (c .before .before .add-products .ensures),
     )
 
 returns : tie.Need-returns Inv-loop μ-loop

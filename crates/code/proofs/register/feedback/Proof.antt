@@ -22,7 +22,9 @@ loop-holds : tie.Need-loop-holds Inv-loop μ-loop
 loop-holds c = (omega arith, filled-none most-checks _ _ refl)
 
 loop-again : tie.Need-loop-again Inv-loop μ-loop
-loop-again c = (omega arith, filled-more most-checks _ _ _ _ (c .before .before .before .loop .inv .1) (omega arith) (c .product-by .ensures ∙ ap (times _) (c .before .before .before .before .inverse-by .ensures)))
+loop-again c =
+    let l = c .before .before .before in
+    (omega arith, filled-more most-checks _ _ _ _ (l .loop .inv .1) (omega arith) (c .product-by .ensures ∙ ap (times _) (l .before .inverse-by .ensures)))
 
 returns : tie.Need-returns Inv-loop μ-loop
 returns c = filled-to (let e : c .before .loop .j ≡ _ = omega arith in e) (c .before .loop .inv .1)

@@ -6,6 +6,7 @@ use native.Mathlib.Omega.{arith}
 use native.Mathlib.Numerals.{add-one}
 use lib.ListN.{length, getD, take, set, length-set}
 use lib.Seq.{take-length}
+use borrow.Author.Needs.{needs}
 use Rattle.field.specs.Field.{plus}
 use Rattle.code.specs.Polynomial.{added, scaled}
 use Rattle.locator.proofs.Polynomials.Coefficients.{added-first, added-turn}
@@ -20,10 +21,7 @@ abbrev μ-loop : tie.MeasureT-loop
 μ-loop powers logarithms polynomial₀ factor other i₀ polynomial i = length other - i
 
 loop-holds : tie.Need-loop-holds Inv-loop μ-loop
-loop-holds c = (omega arith, refl, added-first (c .before .before .args .factor) (c .before .before .args .polynomial .now) (c .before .before .args .other .now))
-
-product-by-requires : tie.Need-product-by-requires Inv-loop μ-loop
-product-by-requires c κs = c .before .before .before .before .before .before .pre .0
+loop-holds c = let y = c .before .before .args in (omega arith, refl, added-first (y .factor) (y .polynomial .now) (y .other .now))
 
 loop-again : tie.Need-loop-again Inv-loop μ-loop
 loop-again c =
@@ -57,7 +55,7 @@ add-scaled-spec =
     loop-holds
     (λ c. omega arith)
     (λ c. omega arith)
-    product-by-requires
+    (λ c κs. search needs)
     (λ c κs. tt)
     (λ c. omega arith)
     (λ c. omega arith)

@@ -27,12 +27,13 @@ add-scaled-requires c κs =
 
 returns : tie.Need-returns
 returns c =
-    let y = c .before .before .before .before .before .before .before .args in
+    let added = c .before .before in
+    let y = added .before .before .before .before .before .args in
     let s = 2 * y .size - (y .k + 1) in
     let p = y .locator .now in
     carries-as-long (y .k) (y .discrepancy) (omega arith) (located p (y .before .now) (y .size)) (length p - s) _
     (omega arith) (omega arith) (omega arith) (omega arith)
-    (ap (λ (q : List ℕ). take s p ++ (q ++ drop (length p - s) (drop s p))) (c .before .before .add-scaled .ensures))
+    (ap (λ (q : List ℕ). take s p ++ (q ++ drop (length p - s) (drop s p))) (added .add-scaled .ensures))
 
 pub amend-spec : {M : Type 1} → statement M
 amend-spec =

@@ -4,6 +4,7 @@ use mathlib.Core.Path.{_≡_, _∙_, ap, ap₂, subst}
 use Prim.Native.Nat.{ℕ, _+_, _-_, _*_, _≤_}
 use native.Mathlib.Omega.{arith}
 use lib.ListN.{getD}
+use borrow.Author.Needs.{needs}
 use Rattle.field.specs.Field.{plus, times}
 use Rattle.locator.specs.Locator.{raised}
 use Rattle.locator.specs.Held.{located}
@@ -30,15 +31,10 @@ loop-holds c = (omega arith, remade-none _ _ _, remade-none _ _ _)
 raised-at-requires : tie.Need-raised-at-requires Inv-loop μ-loop
 raised-at-requires c κs = (omega arith, omega arith)
 
-product-by-requires : tie.Need-product-by-requires Inv-loop μ-loop
-product-by-requires c κs = c .before .before .before .before .before .before .before .pre .0
-
-product-by-requires-2 : tie.Need-product-by-requires-2 Inv-loop μ-loop
-product-by-requires-2 c κs = c .before .before .before .before .before .before .before .before .before .pre .0
-
 loop-again : tie.Need-loop-again Inv-loop μ-loop
 loop-again c =
-    let d = c .before .before .before .before .before .before .before .before in
+    let raised = c .before .before .before .before in
+    let d = raised .before .before .before .before in
     let y = d .before .before .args in
     let i = d .loop .i in
     let v = d .loop .inv .1 in
@@ -47,7 +43,7 @@ loop-again c =
       remade-more _ i _ _ _ _ v (omega arith) (omega arith) (omega arith)
           (c .before .sum .ensures
           ∙ ap₂ plus
-          (c .before .before .before .before .raised-at .ensures
+          (raised .raised-at .ensures
           ∙ raised-below (y .k + 1 - 2 * y .size) (i - 1) i _ _ (omega arith) (v .below))
           (c .before .before .product-by .ensures ∙ ap (times (y .discrepancy)) (w .below (i - 1) (omega arith)))),
       remade-more _ i _ _ _ _ w (omega arith) (omega arith) (omega arith)
@@ -83,10 +79,10 @@ lengthen-spec =
     (λ c. omega arith)
     raised-at-requires
     (λ c. omega arith)
-    product-by-requires
+    (λ c κs. search needs)
     (λ c κs. tt)
     (λ c. omega arith)
-    product-by-requires-2
+    (λ c κs. search needs)
     (λ c. omega arith)
     (λ c. omega arith)
     loop-again

@@ -27,19 +27,21 @@ discrepancy-requires c κs =
 
 lengthen-requires : tie.Need-lengthen-requires Inv-loop μ-loop
 lengthen-requires c κs =
-    let d = c .before .before .before .before .before .before .before in
+    let found = c .before .before .before .before in
+    let d = found .before .before .before in
     let s = d .loop .inv .2 in
     (d .before .before .pre .0, ((s .locator .long, s .before .long), (omega arith, omega arith)))
 
 slice-aggregate-amend : tie.Need-slice-aggregate-amend Inv-loop μ-loop
-slice-aggregate-amend c = sym (c .before .before .before .before .before .before .loop .inv .2 .locator .long)
+slice-aggregate-amend c = let found = c .before .before .before in sym (found .before .before .before .loop .inv .2 .locator .long)
 
 slice-aggregate-amend-2 : tie.Need-slice-aggregate-amend-2 Inv-loop μ-loop
-slice-aggregate-amend-2 c = sym (c .before .before .before .before .before .before .before .loop .inv .2 .before .long)
+slice-aggregate-amend-2 c = let found = c .before .before .before .before in sym (found .before .before .before .loop .inv .2 .before .long)
 
 amend-requires : tie.Need-amend-requires Inv-loop μ-loop
 amend-requires c κs =
-    let d = c .before .before .before .before .before .before .before in
+    let found = c .before .before .before .before in
+    let d = found .before .before .before in
     let s = d .loop .inv .2 in
     (d .before .before .pre .0, ((s .locator .long, s .before .long), (omega arith, omega arith, omega arith)))
 

@@ -27,10 +27,10 @@ sub-result : tie.Need-sub-result
 sub-result c = omega (arith, small (c .before .before .before) (c .before .before .if1 .left))
 
 returns-2 : tie.Need-returns-2
-returns-2 c = let s = c .before .before .before in let h = c .before .before .if1 .left in place-of-column _ _ _ _ (exponent-of s h) (small s h) (c .if2 .taken)
+returns-2 c = let known = c .before .before in let s = known .before in let h = known .if1 .left in place-of-column _ _ _ _ (exponent-of s h) (small s h) (c .if2 .taken)
 
 returns-3 : tie.Need-returns-3
-returns-3 c = let s = c .before .before .before .before in let h = c .before .before .before .if1 .left in place-of-check _ _ _ _ (exponent-of s h) (c .if3 .taken)
+returns-3 c = let known = c .before .before .before in let h = known .if1 .left in place-of-check _ _ _ _ (exponent-of (known .before) h) (c .if3 .taken)
 
 pub place-of-spec : {M : Type 1} → statement M
 place-of-spec =

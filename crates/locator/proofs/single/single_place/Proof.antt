@@ -11,13 +11,13 @@ returns c = single-past _ _ _ _
 
 returns-2 : tie.Need-returns-2
 returns-2 c =
-    single-none _ _ _ _ _ _ (not-false _ (c .before .if1 .left)) (omega arith) (λ i. c .before .before .before .before .shared-slice-known3 .given i .fits)
-    (c .before .before .is-geometric .ensures) (c .if2 .taken)
+    let tested = c .before .before in
+    single-none _ _ _ _ _ _ (not-false _ (c .before .if1 .left)) (omega arith) (λ i. tested .before .before .shared-slice-known3 .given i .fits) (tested .is-geometric .ensures) (c .if2 .taken)
 
 returns-3 : tie.Need-returns-3
 returns-3 c =
-    single-found _ _ _ _ _ _ (not-false _ (c .before .before .if1 .left)) (omega arith)
-    (λ i. c .before .before .before .before .before .shared-slice-known3 .given i .fits) (c .before .before .before .is-geometric .ensures) (c .place-of .result)
+    let tested = c .before .before .before in
+    single-found _ _ _ _ _ _ (not-false _ (c .before .before .if1 .left)) (omega arith) (λ i. tested .before .before .shared-slice-known3 .given i .fits) (tested .is-geometric .ensures) (c .place-of .result)
     (c .place-of .ensures .0) (c .place-of .ensures .1)
 
 pub single-place-spec : {M : Type 1} → statement M

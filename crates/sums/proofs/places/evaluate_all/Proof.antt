@@ -26,8 +26,9 @@ array-share-prefix-constants c = omega (arith, c .before .place-powers .ensures 
 
 slice-aggregate-add-products : tie.Need-slice-aggregate-add-products Inv-loop μ-loop
 slice-aggregate-add-products c =
-    let a = c .before .before .before .before .before .before .args in
-    sym (length-take-le (a .n + a .count) (c .before .before .place-powers .result) (omega (arith, c .before .before .place-powers .ensures .long)))
+    let found = c .before .before in
+    let a = found .before .before .before .before .args in
+    sym (length-take-le (a .n + a .count) (found .place-powers .result) (omega (arith, found .place-powers .ensures .long)))
 
 slice-aggregate-add-products-2 : tie.Need-slice-aggregate-add-products-2 Inv-loop μ-loop
 slice-aggregate-add-products-2 c = sym (c .before .before .before .before .before .loop .inv .1 .long)
@@ -44,13 +45,13 @@ add-products-requires c κs =
 
 loop-again : tie.Need-loop-again Inv-loop μ-loop
 loop-again c =
-    let d = c .before .before .before .before .before .before .before in
+    let found = c .before .before .before .before .before in
+    let d = found .before .before in
     let a = d .before .before .args in
     let m = d .loop .m in (
       omega arith,
       evaluated-more m (a .n) (a .count) (a .coefficients .now) _ _ _ _ (omega arith) (λ i. d .before .shared-slice-known .given i .fits)
-          (row-at (a .coefficients .now) m)
-          (c .before .before .before .before .before .place-powers .ensures) (d .loop .inv .1) (c .before .add-products .ensures),
+          (row-at (a .coefficients .now) m) (found .place-powers .ensures) (d .loop .inv .1) (c .before .add-products .ensures),
     )
 
 returns : tie.Need-returns Inv-loop μ-loop

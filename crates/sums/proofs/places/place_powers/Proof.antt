@@ -32,9 +32,10 @@ progression-requires-2 c κs = (c .before .before .before .before .pre .0, omega
 
 returns : tie.Need-returns
 returns c =
-    let s = c .before .before .before .before .before .before in
-    place-powers-joined (s .args .m) (s .args .n) (s .args .count) (replicate most-places 0) _ _ (omega arith) refl (omega arith)
-    (c .before .before .before .before .progression .ensures) (c .before .progression2 .ensures)
+    let columns = c .before .before .before .before in
+    let a = columns .before .before .args in
+    place-powers-joined (a .m) (a .n) (a .count) (replicate most-places 0) _ _ (omega arith) refl (omega arith)
+    (columns .progression .ensures) (c .before .progression2 .ensures)
 
 pub place-powers-spec : {M : Type 1} → statement M
 place-powers-spec =

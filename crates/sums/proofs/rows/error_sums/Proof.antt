@@ -16,6 +16,10 @@ Inv-loop powers weighted n count sums₀ j₀ sums j = (j ≤ n + count) × Erro
 abbrev μ-loop : tie.MeasureT-loop
 μ-loop powers weighted n count sums₀ j₀ sums j = n + count - j
 
+-- what was known before the loop
+abbrev start : tie.At-loop Inv-loop μ-loop → tie.Start Inv-loop μ-loop
+start l = l .before .before
+
 loop-holds : tie.Need-loop-holds Inv-loop μ-loop
 loop-holds c = (omega arith, error-sums-none _ _ _ _ refl refl)
 
@@ -26,29 +30,31 @@ progression-requires : tie.Need-progression-requires Inv-loop μ-loop
 progression-requires c κs = (c .before .before .before .before .before .pre .0, omega arith, c .before .place-exponent .ensures .0)
 
 array-share-prefix-constants : tie.Need-array-share-prefix-constants Inv-loop μ-loop
-array-share-prefix-constants c = front-room _ _ _ _ (c .before .before .before .before .before .before .before .before .pre .2) (c .before .before .progression .ensures)
+array-share-prefix-constants c = let made = c .before .before in front-room _ _ _ _ (start (made .before .before .before .before) .pre .2) (made .progression .ensures)
 
 slice-aggregate-add-row : tie.Need-slice-aggregate-add-row Inv-loop μ-loop
-slice-aggregate-add-row c = sym (filled-front _ _ _ _ (c .before .before .before .before .before .before .before .before .before .pre .2) (c .before .before .before .progression .ensures) .long)
+slice-aggregate-add-row c = let made = c .before .before .before in sym (filled-front _ _ _ _ (start (made .before .before .before .before) .pre .2) (made .progression .ensures) .long)
 
 slice-aggregate-add-row-2 : tie.Need-slice-aggregate-add-row-2 Inv-loop μ-loop
-slice-aggregate-add-row-2 c = omega (arith, c .before .before .before .before .before .before .before .before .loop .inv .1 .long)
+slice-aggregate-add-row-2 c = let made = c .before .before .before .before in omega (arith, made .before .before .before .before .loop .inv .1 .long)
 
 add-row-requires : tie.Need-add-row-requires Inv-loop μ-loop
 add-row-requires c κs =
-    let l = c .before .before .before .before .before .before .before .before .loop in
-    let s = c .before .before .before .before .before .before .before .before .before .before in
-    let f = filled-front _ _ _ _ (s .pre .2) (c .before .before .before .before .progression .ensures) in
-    (row-length (s .args .weighted .now) (l .j) (omega arith), rw (f .long) (omega (arith, l .inv .1 .long)))
+    let made = c .before .before .before .before in
+    let l = made .before .before .before .before in
+    let s = start l in
+    let f = filled-front _ _ _ _ (s .pre .2) (made .progression .ensures) in
+    (row-length (s .args .weighted .now) (l .loop .j) (omega arith), rw (f .long) (omega (arith, l .loop .inv .1 .long)))
 
 loop-again : tie.Need-loop-again Inv-loop μ-loop
 loop-again c =
-    let l = c .before .before .before .before .before .before .before .before .before .before .loop in
-    let s = c .before .before .before .before .before .before .before .before .before .before .before .before in
-    let d = s .args .weighted .now in
-    let f = filled-front _ _ _ _ (s .pre .2) (c .before .before .before .before .before .before .progression .ensures) in (
+    let added = c .before in
+    let made = added .before .before .before .before .before in
+    let l = made .before .before .before .before in
+    let d = start l .args .weighted .now in
+    let f = filled-front _ _ _ _ (start l .pre .2) (made .progression .ensures) in (
       omega arith,
-      error-sums-more (l .j) _ _ _ d _ _ _ (c .before .before .before .before .before .before .before .before .place-exponent .ensures .1) (l .inv .1) (row-at d (l .j)) (terms-of-products _ _ _ _ _ _ f (c .before .add-row .ensures)),
+      error-sums-more (l .loop .j) _ _ _ d _ _ _ (made .before .before .place-exponent .ensures .1) (l .loop .inv .1) (row-at d (l .loop .j)) (terms-of-products _ _ _ _ _ _ f (added .add-row .ensures)),
     )
 
 returns : tie.Need-returns Inv-loop μ-loop

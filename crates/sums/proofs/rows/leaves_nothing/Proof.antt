@@ -12,8 +12,8 @@ slice-aggregate-is-zero c = sym (length-take-le _ _ (omega (arith, c .before .su
 
 returns : tie.Need-returns
 returns c = λ s e f.
-    explained s _ _ _ _ _ _ _ e f (c .before .before .before .before .before .error-sums .ensures) (c .before .before .sum-bytes .ensures) (c .is-zero .result)
-    (omega (arith, c .before .before .sum-bytes .ensures .long)) (c .is-zero .ensures)
+    let added = c .before .before in
+    explained s _ _ _ _ _ _ _ e f (added .before .before .before .error-sums .ensures) (added .sum-bytes .ensures) (c .is-zero .result) (omega (arith, added .sum-bytes .ensures .long)) (c .is-zero .ensures)
 
 pub leaves-nothing-spec : {M : Type 1} → statement M
 leaves-nothing-spec =

@@ -31,10 +31,10 @@ element-copy-out-of-roots c = let i = c .before .loop .i in rw (c .before .befor
 
 loop-again : tie.Need-loop-again Inv-loop μ-loop
 loop-again c =
-    let l = c .before .before .loop in (
+    let l = c .before .before in (
       omega arith,
-      filled-more _ _ _ _ _ (l .inv .1) (omega arith)
-          (ap (λ (x : ℕ). getD (c .before .before .before .before .args .logarithms .now) x 0) (c .before .before .before .roots .ensures .entry (l .i) (omega arith))),
+      filled-more _ _ _ _ _ (l .loop .inv .1) (omega arith)
+          (ap (λ (x : ℕ). getD (l .before .before .args .logarithms .now) x 0) (l .before .roots .ensures .entry (l .loop .i) (omega arith))),
     )
 
 returns : tie.Need-returns Inv-loop μ-loop
