@@ -1,24 +1,19 @@
 -- `check_values` meets its contract: each refusal under its own condition, in the table's order. Assumes nothing.
 use mathlib.Core.Path.{_≡_, sym, _∙_}
 use mathlib.Core.Logic.{inl, inr}
-use Prim.Native.Nat.{_+_, _*_, _≤_}
+use Prim.Native.Nat.{_*_}
 use native.Mathlib.Omega.{arith}
 use borrow.Author.Tests.{ne-eqb, lt-ltb}
-use Rattle.code.specs.Size.{most-columns, value-room}
 use Rattle.code.specs.Settings.{settings, settings-refusal}
-use Rattle.code.proofs.ValidSettings.{sizes, values-fit}
+use Rattle.code.proofs.ValidSettings.{bounds, values-fit}
 use Rattle.code.proofs.Encoding.Entry.{checks-settings, checks-length, checks-done}
 use borrow.Author.Needs.{needs}
 use Rattle.code.proofs.check_values.Statement.{statement}
 use Rattle.code.proofs.check_values.Tie as tie
 
--- settings that are not refused, and their sizes
+-- settings that are not refused
 allowed : (c : tie.Else1) → let a = c .before .before .before .before .args in settings-refusal (settings (a .n) (a .t) (a .w)) ≡ 0
 allowed c = sym (c .before .settings-refusal .ensures) ∙ c .if1 .left
-
-bounds : (c : tie.Else1) → let a = c .before .before .before .before .args in (a .n ≤ most-columns) × (3 * a .t + 1 ≤ a .n) × (a .w ≤ value-room)
-unfolding settings
-bounds c = let z = sizes _ (allowed c) in (z .few-columns, z .few-bad, z .few-bytes)
 
 returns : tie.Need-returns
 returns c =
@@ -26,7 +21,7 @@ returns c =
     checks-settings (a .n) (a .t) (a .w) (a .vector .now) (a .output .now) _ (c .before .settings-refusal .ensures) (c .if1 .taken)
 
 mul-if2 : tie.Need-mul-if2
-mul-if2 c = let z = bounds c in omega (arith, values-fit _ _ (z .0) (z .2))
+mul-if2 c = let z = bounds _ _ _ (allowed c) in omega (arith, values-fit _ _ (z .0) (z .2))
 
 returns-2 : tie.Need-returns-2
 returns-2 c =
@@ -35,7 +30,7 @@ returns-2 c =
 
 mul-if3-2 : tie.Need-mul-if3-2
 mul-if3-2 c =
-    let z = bounds (c .before) in
+    let z = bounds _ _ _ (allowed (c .before)) in
     let a = c .before .before .before .before .before .args in
     omega (arith, values-fit (2 * a .t) (a .w) (omega arith) (z .2))
 

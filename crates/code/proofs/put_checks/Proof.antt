@@ -5,23 +5,14 @@ use Prim.Native.Nat.{ℕ, _+_, _*_, _≤_}
 use native.Mathlib.Omega.{arith}
 use lib.ListN.{length, take, drop, length-append, length-drop}
 use lib.Seq.{length-take-le}
-use Rattle.code.specs.Size.{most-columns, row-width, place-rows}
-use Rattle.code.specs.Settings.{settings}
+use Rattle.code.specs.Size.{row-width, place-rows}
 use Rattle.code.proofs.Lists.Bytes.{bytes-every}
-use Rattle.code.proofs.ValidSettings.{sizes, value-in-row}
+use Rattle.code.proofs.ValidSettings.{bounds}
 use Rattle.code.proofs.Encoding.Factors.{feedback-filled}
 use Rattle.code.proofs.Encoding.CheckValues.{checks-put}
 use borrow.Author.Needs.{needs}
 use Rattle.code.proofs.put_checks.Statement.{statement}
 use Rattle.code.proofs.put_checks.Tie as tie
-
--- the sizes of settings that are not refused
-bounds : (c : tie.Start) → (c .args .n ≤ most-columns) × (3 * c .args .t + 1 ≤ c .args .n) × (c .args .w ≤ row-width)
-unfolding settings
-bounds c =
-    let s = settings (c .args .n) (c .args .t) (c .args .w) in
-    let z = sizes s (c .pre .0) in
-    (z .few-columns, z .few-bad, value-in-row s z)
 
 -- the rows with their divided part back
 whole : (end : ℕ) (loaded divided : List ℕ) → end ≤ place-rows → length loaded ≡ place-rows → length divided ≡ length (take end loaded) → place-rows ≡ length (divided ++ drop end loaded)
@@ -41,47 +32,26 @@ generator-of c = c .before .before .before .before .before
 abbrev loaded-from : tie.After-load → tie.Start
 loaded-from c = start (roots-of (generator-of c))
 
-mul-count : tie.Need-mul-count
-mul-count c = let z = bounds (start c) in omega arith
-
 generator-requires : tie.Need-generator-requires
 generator-requires c κs =
     let roots = c .before .before .before .before in
-    let z = bounds (start roots) in
+    let z = bounds _ _ _ (start roots .pre .0) in
     (roots .before .before .powers .ensures, roots .before .logarithms .ensures, roots .roots .ensures, omega arith, refl)
 
 feedback-requires : tie.Need-feedback-requires
 feedback-requires c κs =
     let roots = roots-of (c .before .before .before) in
-    let z = bounds (start roots) in
+    let z = bounds _ _ _ (start roots .pre .0) in
     (roots .before .before .powers .ensures, roots .before .logarithms .ensures, omega arith)
 
 load-requires : tie.Need-load-requires
-load-requires c κs = let s = start (roots-of (c .before .before .before .before)) in let z = bounds s in (z .0, z .2, s .pre .1)
-
-add-end : tie.Need-add-end
-add-end c = let z = bounds (loaded-from c) in omega arith
-
-mul-end : tie.Need-mul-end
-mul-end c = let z = bounds (loaded-from c) in omega arith
-
-array-share-prefix-feedback : tie.Need-array-share-prefix-feedback
-array-share-prefix-feedback c = let z = bounds (loaded-from c) in omega (arith, c .before .feedback .ensures .long)
-
-slice-aggregate-divide : tie.Need-slice-aggregate-divide
-slice-aggregate-divide c = let z = bounds (loaded-from (c .before)) in sym (length-take-le _ _ (omega (arith, c .before .before .feedback .ensures .long)))
-
-array-borrow-prefix-rows : tie.Need-array-borrow-prefix-rows
-array-borrow-prefix-rows c = let z = bounds (loaded-from (c .before)) in omega (arith, c .before .load .ensures .long)
-
-slice-aggregate-divide-2 : tie.Need-slice-aggregate-divide-2
-slice-aggregate-divide-2 c = let z = bounds (loaded-from (c .before .before)) in sym (length-take-le _ _ (omega (arith, c .before .before .load .ensures .long)))
+load-requires c κs = let s = start (roots-of (c .before .before .before .before)) in let z = bounds _ _ _ (s .pre .0) in (z .0, z .3, s .pre .1)
 
 divide-requires : tie.Need-divide-requires
 divide-requires c κs =
     let loaded = c .before .before in
     let s = loaded-from loaded in
-    let z = bounds s in
+    let z = bounds _ _ _ (s .pre .0) in
     let hs = length-take-le (2 * s .args .t) (loaded .before .feedback .result) (omega (arith, loaded .before .feedback .ensures .long)) in
     let part = length-take-le (row-width * (s .args .n + 2 * s .args .t)) (loaded .load .result) (omega (arith, loaded .load .ensures .long)) in
     (z .0, omega arith, omega arith)
@@ -90,7 +60,7 @@ slice-aggregate-store : tie.Need-slice-aggregate-store
 slice-aggregate-store c =
     let loaded = c .before .before .before .before .before in
     let s = loaded-from loaded in
-    let z = bounds s in
+    let z = bounds _ _ _ (s .pre .0) in
     whole (row-width * (s .args .n + 2 * s .args .t)) (loaded .load .result) (c .before .before .divide .last .1 .0) (omega arith) (loaded .load .ensures .long) (c .before .before .divide .ensures .long)
 
 store-requires : tie.Need-store-requires
@@ -98,10 +68,10 @@ store-requires c κs =
     let divided = c .before .before .before in
     let loaded = divided .before .before .before in
     let s = loaded-from loaded in
-    let z = bounds s in
+    let z = bounds _ _ _ (s .pre .0) in
     let end = row-width * (s .args .n + 2 * s .args .t) in
     let long = whole end (loaded .load .result) (divided .divide .last .1 .0) (omega arith) (loaded .load .ensures .long) (divided .divide .ensures .long) in
-    (z .0, omega arith, z .2, subst (λ (k : ℕ). end ≤ k) long (omega arith), s .pre .2)
+    (z .0, omega arith, z .3, subst (λ (k : ℕ). end ≤ k) long (omega arith), s .pre .2)
 
 returns : tie.Need-returns
 returns c =
@@ -110,7 +80,7 @@ returns c =
     let loaded = divided .before .before .before in
     let made = generator-of loaded in
     let s = loaded-from loaded in
-    let z = bounds s in
+    let z = bounds _ _ _ (s .pre .0) in
     let a = s .args in
     checks-put (a .n) (a .t) (a .w) (a .vector .now) (loaded .before .feedback .result) (loaded .load .result) (divided .divide .last .1 .0) _ (a .output .now) _ (s .pre .0) (s .pre .1)
     (bytes-every (a .vector .now) (λ i. roots-of made .before .before .before .before .shared-slice-known .given i .fits))
@@ -124,16 +94,16 @@ put-checks-spec =
     (λ c κs. search needs)
     (λ c κs. search needs)
     (λ c κs. search needs)
-    mul-count
+    (λ c. let z = bounds _ _ _ (start c .pre .0) in omega arith)
     generator-requires
     feedback-requires
     load-requires
-    add-end
-    mul-end
-    array-share-prefix-feedback
-    slice-aggregate-divide
-    array-borrow-prefix-rows
-    slice-aggregate-divide-2
+    (λ c. let z = bounds _ _ _ (loaded-from c .pre .0) in omega arith)
+    (λ c. let z = bounds _ _ _ (loaded-from c .pre .0) in omega arith)
+    (λ c. let z = bounds _ _ _ (loaded-from c .pre .0) in omega (arith, c .before .feedback .ensures .long))
+    (λ c. let z = bounds _ _ _ (loaded-from (c .before) .pre .0) in sym (length-take-le _ _ (omega (arith, c .before .before .feedback .ensures .long))))
+    (λ c. let z = bounds _ _ _ (loaded-from (c .before) .pre .0) in omega (arith, c .before .load .ensures .long))
+    (λ c. let z = bounds _ _ _ (loaded-from (c .before .before) .pre .0) in sym (length-take-le _ _ (omega (arith, c .before .before .load .ensures .long))))
     divide-requires
     slice-aggregate-store
     store-requires
