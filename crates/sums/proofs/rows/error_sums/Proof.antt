@@ -16,7 +16,10 @@ Inv-loop powers weighted n count sums₀ j₀ sums j = (j ≤ n + count) × Erro
 abbrev μ-loop : tie.MeasureT-loop
 μ-loop powers weighted n count sums₀ j₀ sums j = n + count - j
 
--- what was known before the loop
+-- the turn in which constants were made, and what was known before the loop
+abbrev turn : tie.After-progression Inv-loop μ-loop → tie.At-loop Inv-loop μ-loop
+turn c = c .before .before .before .before
+
 abbrev start : tie.At-loop Inv-loop μ-loop → tie.Start Inv-loop μ-loop
 start l = l .before .before
 
@@ -30,18 +33,18 @@ progression-requires : tie.Need-progression-requires Inv-loop μ-loop
 progression-requires c κs = (c .before .before .before .before .before .pre .0, omega arith, c .before .place-exponent .ensures .0)
 
 array-share-prefix-constants : tie.Need-array-share-prefix-constants Inv-loop μ-loop
-array-share-prefix-constants c = let made = c .before .before in front-room _ _ _ _ (start (made .before .before .before .before) .pre .2) (made .progression .ensures)
+array-share-prefix-constants c = let made = c .before .before in front-room _ _ _ _ (start (turn made) .pre .2) (made .progression .ensures)
 
 slice-aggregate-add-row : tie.Need-slice-aggregate-add-row Inv-loop μ-loop
-slice-aggregate-add-row c = let made = c .before .before .before in sym (filled-front _ _ _ _ (start (made .before .before .before .before) .pre .2) (made .progression .ensures) .long)
+slice-aggregate-add-row c = let made = c .before .before .before in sym (filled-front _ _ _ _ (start (turn made) .pre .2) (made .progression .ensures) .long)
 
 slice-aggregate-add-row-2 : tie.Need-slice-aggregate-add-row-2 Inv-loop μ-loop
-slice-aggregate-add-row-2 c = let made = c .before .before .before .before in omega (arith, made .before .before .before .before .loop .inv .1 .long)
+slice-aggregate-add-row-2 c = let made = c .before .before .before .before in omega (arith, turn made .loop .inv .1 .long)
 
 add-row-requires : tie.Need-add-row-requires Inv-loop μ-loop
 add-row-requires c κs =
     let made = c .before .before .before .before in
-    let l = made .before .before .before .before in
+    let l = turn made in
     let s = start l in
     let f = filled-front _ _ _ _ (s .pre .2) (made .progression .ensures) in
     (row-length (s .args .weighted .now) (l .loop .j) (omega arith), rw (f .long) (omega (arith, l .loop .inv .1 .long)))
@@ -50,7 +53,7 @@ loop-again : tie.Need-loop-again Inv-loop μ-loop
 loop-again c =
     let added = c .before in
     let made = added .before .before .before .before .before in
-    let l = made .before .before .before .before in
+    let l = turn made in
     let d = start l .args .weighted .now in
     let f = filled-front _ _ _ _ (start l .pre .2) (made .progression .ensures) in (
       omega arith,

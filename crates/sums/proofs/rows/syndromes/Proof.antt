@@ -14,7 +14,10 @@ Inv-loop powers logarithms difference count of-roots sums₀ c₀ sums c = (c �
 abbrev μ-loop : tie.MeasureT-loop
 μ-loop powers logarithms difference count of-roots sums₀ c₀ sums c = count - c
 
--- what was known before the loop
+-- the turn in which powers of the roots were made, and what was known before the loop
+abbrev turn : tie.After-root-powers Inv-loop μ-loop → tie.At-loop Inv-loop μ-loop
+turn c = c .before .before .before
+
 abbrev start : tie.At-loop Inv-loop μ-loop → tie.Start Inv-loop μ-loop
 start l = l .before .before .before
 
@@ -33,15 +36,15 @@ array-share-prefix-constants c = omega (arith, c .before .root-powers .ensures .
 slice-aggregate-add-row : tie.Need-slice-aggregate-add-row Inv-loop μ-loop
 slice-aggregate-add-row c =
     let raised = c .before .before in
-    sym (filled-prefix _ _ _ _ (start (raised .before .before .before) .pre .2) (raised .root-powers .ensures) .long)
+    sym (filled-prefix _ _ _ _ (start (turn raised) .pre .2) (raised .root-powers .ensures) .long)
 
 slice-aggregate-add-row-2 : tie.Need-slice-aggregate-add-row-2 Inv-loop μ-loop
-slice-aggregate-add-row-2 c = let raised = c .before .before .before in omega (arith, raised .before .before .before .loop .inv .1 .long)
+slice-aggregate-add-row-2 c = let raised = c .before .before .before in omega (arith, turn raised .loop .inv .1 .long)
 
 add-row-requires : tie.Need-add-row-requires Inv-loop μ-loop
 add-row-requires c κs =
     let raised = c .before .before .before in
-    let l = raised .before .before .before in
+    let l = turn raised in
     let s = start l in
     let f = filled-prefix _ _ _ _ (s .pre .2) (raised .root-powers .ensures) in
     (row-length (s .args .difference .now) (l .loop .c) (omega arith), rw (f .long) (omega (arith, l .loop .inv .1 .long)))
@@ -49,7 +52,7 @@ add-row-requires c κs =
 loop-again : tie.Need-loop-again Inv-loop μ-loop
 loop-again c =
     let raised = c .before .before .before .before .before in
-    let l = raised .before .before .before in
+    let l = turn raised in
     let d = start l .args .difference .now in
     let f = filled-prefix _ _ _ _ (start l .pre .2) (raised .root-powers .ensures) in
     (omega arith, check-sums-more (l .loop .c) _ _ d _ _ _ refl (l .loop .inv .1) (row-at d (l .loop .c)) (terms-of-products _ _ _ _ _ _ f (c .before .add-row .ensures)))
