@@ -7,7 +7,7 @@ use lib.ListN.{length, getD}
 use borrow.Author.Needs.{needs}
 use Rattle.code.specs.Steps.Lanes.{in-row}
 use Rattle.locator.specs.Locator.{value}
-use Rattle.locator.proofs.Rows.Lanes.{value-elsewhere}
+use Rattle.locator.proofs.Polynomials.Steps.{value-no-root}
 use Rattle.locator.proofs.Rows.Listing.{Listed-written, listed-written-none, listed-written-more, listed-written-lane}
 use Rattle.locator.proofs.plane.weighted_errors.Statement.{statement}
 use Rattle.locator.proofs.plane.weighted_errors.Tie as tie
@@ -67,7 +67,7 @@ returns c =
     let a = s .args in
     listed-written-lane _ _ _ _ (λ j. getD (a .values .now) (in-row j (a .p)) 0) _ _ _ _ (let e : c .before .loop .i ≡ roots .root-places .result .many = omega arith in e)
     (roots .root-places .ensures) (c .before .loop .inv .1)
-    (λ j h n. value-elsewhere _ _ _ (λ e. n (s .pre .1 .1 .1 .0 j h ∙ e))) (s .pre .1 .1 .1 .1)
+    (λ j h n. value-no-root _ _ _ (λ e. n (s .pre .1 .1 .1 .0 j h ∙ e))) (s .pre .1 .1 .1 .1)
 
 pub weighted-errors-spec : {M : Type 1} → statement M
 weighted-errors-spec =
