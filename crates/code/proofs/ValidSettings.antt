@@ -8,7 +8,7 @@ use native.Mathlib.Nat.{mul-le-mul}
 use lib.Dec.{ltb, leb}
 use borrow.Author.Tests.{ltb-false, leb-true}
 use Rattle.code.specs.Size.{most-columns, most-checks, value-room, row-width, vector-room, checks-room}
-use Rattle.code.specs.Settings.{Settings, settings-refusal}
+use Rattle.code.specs.Settings.{Settings, settings, settings-refusal}
 use Rattle.code.proofs.Lists.Tests.{and-split}
 
 -- settings that are not turned down
@@ -42,6 +42,11 @@ sizes s e =
 -- a row has room for a value
 pub value-in-row : (s : Settings) → Sizes s → s .w ≤ row-width
 value-in-row s z = omega arith
+
+-- all bounds, by the numbers
+pub bounds : (n t w : ℕ) → settings-refusal (settings n t w) ≡ 0 → (n ≤ most-columns) × (3 * t + 1 ≤ n) × (w ≤ value-room) × (w ≤ row-width)
+unfolding settings
+bounds n t w e = let z = sizes (settings n t w) e in (z .few-columns, z .few-bad, z .few-bytes, value-in-row (settings n t w) z)
 
 -- and an array for the values, or for the check values
 pub values-fit : (n w : ℕ) → n ≤ most-columns → w ≤ value-room → n * w ≤ vector-room

@@ -16,12 +16,9 @@ use Rattle.locator.specs.Locator.{massey, value}
 unfoldable pub place-exponent : (n checks j : ℕ) → ℕ
 place-exponent n checks j = cond (ltb j n) (254 - j) (n + checks - suc j)
 
-unfoldable pub exponent : Settings → (j : ℕ) → ℕ
-exponent s j = place-exponent (s .n) (check-count s) j
-
 -- a weighted error is the byte's error times a power of its place, with the exponent of the first root
 unfoldable pub error-byte : Settings → (j weighted : ℕ) → ℕ
-error-byte s j y = times y (inverse (power 2 (first-exponent * exponent s j)))
+error-byte s j y = times y (inverse (power 2 (first-exponent * place-exponent (s .n) (check-count s) j)))
 
 -- bytes with the errors at the places from place j on added
 unfoldable pub mended : Settings → (j : ℕ) → (bytes weighted : List ℕ) → List ℕ
@@ -37,12 +34,12 @@ wrong-places (y ∷ ys) = cond (eqb y 0) 0 1 + wrong-places ys
 -- the power sum i of the weighted errors at the places from place j on
 unfoldable pub error-sum : Settings → (i j : ℕ) → (weighted : List ℕ) → ℕ
 error-sum s i j [] = 0
-error-sum s i j (y ∷ ys) = plus (times y (power (power 2 (exponent s j)) i)) (error-sum s i (suc j) ys)
+error-sum s i j (y ∷ ys) = plus (times y (power (power 2 (place-exponent (s .n) (check-count s) j)) i)) (error-sum s i (suc j) ys)
 
 -- the weighted errors that the locator of the power sums S tells
 pub record Located (s : Settings) (S : ℕ → ℕ) (weighted : List ℕ) : Type 0 where
   pub many : length weighted ≡ s .n + check-count s
-  pub each : (j : ℕ) → j < s .n + check-count s → getD weighted j 0 ≡ value S (massey S (check-count s) .locator) (power 2 (exponent s j))
+  pub each : (j : ℕ) → j < s .n + check-count s → getD weighted j 0 ≡ value S (massey S (check-count s) .locator) (power 2 (place-exponent (s .n) (check-count s) j))
 
 -- at most t errors, and S is what they sum up to
 pub record Explained (s : Settings) (S : ℕ → ℕ) (weighted : List ℕ) : Type 0 where

@@ -25,7 +25,7 @@ use Rattle.sums.specs.Places.{Place-powers, Evaluated}
 use Rattle.locator.specs.Plane.{Lane-written}
 use Rattle.repair.specs.Steps.Columns.{column-errors}
 use Rattle.code.proofs.Vectors.Lane.{lane-length, lane-at, lane-is}
-use Rattle.locator.proofs.Errors.Places.{place-exponent-settings, exponent-column}
+use Rattle.locator.proofs.Errors.Places.{place-exponent-column}
 use Rattle.repair.proofs.ColumnErrors.{column-errors-length}
 
 -- the places themselves are their first powers
@@ -58,7 +58,7 @@ lane-located s p S places rows now q w =
       each = λ j h.
           lane-at p (s .n + check-count s) now j h ∙ w .new j h
           ∙ ap (value S (massey S (check-count s) .locator))
-          (places-at (s .n) (check-count s) places q j h ∙ ap (power 2) (sym (place-exponent-settings s j)));
+          (places-at (s .n) (check-count s) places q j h);
     }
 
 pub lane-kept :
@@ -108,5 +108,5 @@ column-errors-plane s p many ys h l byte =
           column-errors-at (s .n) 0 (value-size s) ys p j h g
           ∙ times-comm (inverse (power 2 (first-exponent * (254 - (0 + j))))) (getD ys (in-row j p) 0) (inverse-lt _) (byte _)
           ∙ ap₂ (λ (y i : ℕ). times y (inverse (power 2 (first-exponent * i)))) (sym (lane-at p many ys j (omega arith)))
-          ((let e : 254 - (0 + j) ≡ 254 - j = omega arith in e) ∙ sym (exponent-column s j g));
+          ((let e : 254 - (0 + j) ≡ 254 - j = omega arith in e) ∙ sym (place-exponent-column (s .n) (check-count s) j g));
     }

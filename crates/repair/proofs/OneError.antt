@@ -18,10 +18,9 @@ use Rattle.code.specs.Settings.{Settings, check-count}
 use Rattle.code.specs.Steps.Lanes.{in-row, lane}
 use Rattle.code.proofs.Vectors.Lane.{lane-length, lane-at, lane-is}
 use Rattle.code.proofs.Written.{all-zero, zero-at}
-use Rattle.locator.specs.Errors.{exponent, wrong-places, error-sum, Explained}
+use Rattle.locator.specs.Errors.{wrong-places, error-sum, Explained, place-exponent}
 use Rattle.locator.specs.Plane.{Single-at}
 use Rattle.repair.specs.Steps.Planes.{plane-sums, Explains}
-use Rattle.locator.proofs.Errors.Places.{place-exponent-settings}
 
 -- errors all of which are 0, or all but one
 counted-zero : (y : ℕ) → y ≡ 0 → _≡_ {A = ℕ} (cond (eqb y 0) 0 1) 0
@@ -38,26 +37,26 @@ no-error s i m [] z = (refl, refl)
 no-error s i m (y ∷ ys) z =
     let r = no-error s i (suc m) ys (λ k. z (suc k)) in (
       omega (arith, counted-zero y (z 0), r .0),
-      ap₂ plus (ap (λ (a : ℕ). times a (power (power 2 (exponent s m)) i)) (z 0) ∙ zero-times _) (r .1) ∙ plus-zero 0 (omega arith),
+      ap₂ plus (ap (λ (a : ℕ). times a (power (power 2 (place-exponent (s .n) (check-count s) m)) i)) (z 0) ∙ zero-times _) (r .1) ∙ plus-zero 0 (omega arith),
     )
 
 one-error :
     (s : Settings) (i m j : ℕ) (ys : List ℕ) → j < length ys → ((k : ℕ) → (k ≡ j → ⊥) → getD ys k 0 ≡ 0) →
-    (wrong-places ys ≤ 1) × (error-sum s i m ys ≡ times (getD ys j 0) (power (power 2 (exponent s (m + j))) i))
+    (wrong-places ys ≤ 1) × (error-sum s i m ys ≡ times (getD ys j 0) (power (power 2 (place-exponent (s .n) (check-count s) (m + j))) i))
 unfolding wrong-places error-sum
 one-error s i m j [] h z = absurd (omega arith)
 one-error s i m zero (y ∷ ys) h z =
     let r = no-error s i (suc m) ys (λ k. z (suc k) (λ e. omega arith)) in (
       omega (arith, counted-once (eqb y 0), r .0),
-      ap (plus (times y (power (power 2 (exponent s m)) i))) (r .1) ∙ plus-zero _ (times-lt _ _)
-          ∙ ap (λ (k : ℕ). times y (power (power 2 (exponent s k)) i)) (let q : m ≡ m + 0 = omega arith in q),
+      ap (plus (times y (power (power 2 (place-exponent (s .n) (check-count s) m)) i))) (r .1) ∙ plus-zero _ (times-lt _ _)
+          ∙ ap (λ (k : ℕ). times y (power (power 2 (place-exponent (s .n) (check-count s) k)) i)) (let q : m ≡ m + 0 = omega arith in q),
     )
 one-error s i m (suc j) (y ∷ ys) h z =
     let r = one-error s i (suc m) j ys (omega arith) (λ k d. z (suc k) (λ e. d (omega arith))) in
     let e = z 0 (λ q. omega arith) in (
       omega (arith, counted-zero y e, r .0),
-      ap₂ plus (ap (λ (a : ℕ). times a (power (power 2 (exponent s m)) i)) e ∙ zero-times _) (r .1) ∙ zero-plus _ (times-lt _ _)
-          ∙ ap (λ (k : ℕ). times (getD ys j 0) (power (power 2 (exponent s k)) i)) (let q : suc m + j ≡ m + suc j = omega arith in q),
+      ap₂ plus (ap (λ (a : ℕ). times a (power (power 2 (place-exponent (s .n) (check-count s) m)) i)) e ∙ zero-times _) (r .1) ∙ zero-plus _ (times-lt _ _)
+          ∙ ap (λ (k : ℕ). times (getD ys j 0) (power (power 2 (place-exponent (s .n) (check-count s) k)) i)) (let q : suc m + j ≡ m + suc j = omega arith in q),
     )
 
 -- a plane with one error written
@@ -75,7 +74,7 @@ module _ (s : Settings) (p place : ℕ) (sums now : List ℕ) (single : Single-a
       go (yes l) = lane-at p many now k l ∙ elsewhere k d
       go (no l) = List·getD-eq-default ys 0 (omega (arith, lane-length p many now))
 
-  found : (i : ℕ) → (wrong-places ys ≤ 1) × (error-sum s i 0 ys ≡ times (getD ys place 0) (power (power 2 (exponent s (0 + place))) i))
+  found : (i : ℕ) → (wrong-places ys ≤ 1) × (error-sum s i 0 ys ≡ times (getD ys place 0) (power (power 2 (place-exponent (s .n) (check-count s) (0 + place))) i))
   found i = one-error s i 0 place ys (omega (arith, lane-length p many now)) others
 
   explained-single : 1 ≤ s .t → Explained s (plane-sums p (check-count s) sums) ys
@@ -86,7 +85,7 @@ module _ (s : Settings) (p place : ℕ) (sums now : List ℕ) (single : Single-a
             ap₂ plus (lane-at p (check-count s) sums i l ∙ single .explained inside i l)
             (found i .1
             ∙ ap₂ (λ (y e : ℕ). times y (power (power 2 e) i)) (lane-at p many now place inside ∙ here)
-            (ap (exponent s) (let q : 0 + place ≡ place = omega arith in q) ∙ place-exponent-settings s place))
+            (ap (place-exponent (s .n) (check-count s)) (let q : 0 + place ≡ place = omega arith in q)))
             ∙ plus-self _;
       }
 

@@ -7,19 +7,19 @@ use mathlib.Core.List.{List, [], _∷_}
 use Prim.Native.Nat.{ℕ, zero, suc, _<_}
 use native.Mathlib.Omega.{arith}
 use lib.Dec.{eqb}
-use lib.ListN.{length, getD, replicate, length-replicate}
+use lib.ListN.{length, replicate, length-replicate}
 use borrow.Author.Tests.{eqb-true}
 use Rattle.field.proofs.Xor.{plus-self, plus-zero, plus-again}
 use Rattle.code.specs.Settings.{Settings, check-count, value-size}
 use Rattle.code.specs.Polynomial.{added}
 use Rattle.code.specs.Vector.{plane, each-long, is-vector, are-checks, has-checks}
 use Rattle.code.specs.Repair.{Near, Repaired, No-repair}
-use Rattle.code.proofs.Lists.Bytes.{Bytes}
+use Rattle.code.proofs.Lists.Bytes.{Bytes, zeros-at}
 use Rattle.code.proofs.Lists.Tests.{and-split}
 use Rattle.code.proofs.Polynomials.Arithmetic.{length-added, bytes-added, getD-added}
 use Rattle.code.proofs.Vectors.Planes.{Values, values-of, Vector, vector-of, vector-back, Checked, checked-of, plane-length, plane-bytes}
-use Rattle.repair.specs.Difference.{plus-values, zeros}
 use Rattle.code.proofs.Codewords.Linear.{near-plus}
+use Rattle.repair.specs.Difference.{plus-values, zeros}
 
 -- sums of bytes with zeros, with themselves, and twice with the same bytes
 added-zeros : (n : ℕ) (vs : List ℕ) → length vs ≡ n → Bytes vs → added vs (replicate n 0) ≡ vs
@@ -63,15 +63,10 @@ plane-plus p w [] us a b = refl
 plane-plus p w (v ∷ vs) [] a b = refl
 plane-plus p w (v ∷ vs) (u ∷ us) a b = ap₂ _∷_ (getD-added v u p (a .1) (b .1)) (plane-plus p w vs us (a .2) (b .2))
 
-zero-byte : (w p : ℕ) → _≡_ {A = ℕ} (getD (replicate w 0) p 0) 0
-zero-byte zero p = refl
-zero-byte (suc w) zero = refl
-zero-byte (suc w) (suc p) = zero-byte w p
-
 plane-replicate : (p n w : ℕ) → plane p (replicate n (replicate w 0)) ≡ replicate n 0
 unfolding plane
 plane-replicate p zero w = refl
-plane-replicate p (suc n) w = ap₂ _∷_ (zero-byte w p) (plane-replicate p n w)
+plane-replicate p (suc n) w = ap₂ _∷_ (zeros-at w p) (plane-replicate p n w)
 
 pub plane-zeros : (s : Settings) (p : ℕ) → plane p (zeros s) ≡ replicate (s .n) 0
 unfolding zeros

@@ -23,7 +23,7 @@ use Rattle.locator.proofs.Locator.Held.{massey-fitting}
 use Rattle.repair.proofs.Located.{lane-located, lane-kept}
 use Rattle.repair.proofs.PlaneLocators.{plane-taken}
 use Rattle.locator.proofs.Rows.Lanes.{lane-written-to}
-use Rattle.locator.proofs.Decoding.Sound.{value-lt}
+use Rattle.locator.proofs.Polynomials.Steps.{value-lt}
 
 -- a plane's locator taken out of the rows again
 pub locator-taken :

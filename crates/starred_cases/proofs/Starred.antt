@@ -18,7 +18,7 @@ use Rattle.code.proofs.Codewords.Quick.{quick-summed, quick-zero-from, quick-wo
 use Rattle.code.proofs.Lists.Tests.{all-from}
 use Rattle.code.proofs.Vectors.Planes.{repairs}
 use Rattle.locator.specs.Locator.{massey, start, changed, longer, as-long, against, raised, quotient, value}
-use Rattle.locator.specs.Errors.{place-exponent, exponent}
+use Rattle.locator.specs.Errors.{place-exponent}
 use Rattle.gradecast.specs.Promise.{holds}
 use Rattle.gradecast.proofs.Cases.{three-refused, four-opens, alone-holds, alone-finishes, alone-ends-in-four}
 use Rattle.gradecast.proofs.Testing.NoneNear.{quick-sum, right-at, plane-none, none-from, quick-none, none-quick}
@@ -97,7 +97,7 @@ level-case n t held hs l heights many level = (
 pub starred-cases : Starred-cases
 unfolding Starred-cases starred All-hold single times times-from doubled plus xor-from doublings settings check-count value-size quick-checks quick-planes-from
     quick-word quick-zero-from quick-summed quick-none none-from plane-none right-at quick-sum all-from massey start changed longer as-long
-    against raised quotient value place-exponent exponent eval added scaled power inverse are-checks each-long byte-list plane settings-refusal is-vector same differ-values
+    against raised quotient value place-exponent eval added scaled power inverse are-checks each-long byte-list plane settings-refusal is-vector same differ-values
     held-bytes held-blank held-as bits signed height confident placed ascending without-ends halved middle
 starred-cases = (
   product-case _ _ _ refl,

@@ -12,32 +12,8 @@ Inv-loop a count₀ b₀ count b = (b ≤ 256) × (count ≤ b)
 abbrev μ-loop : tie.MeasureT-loop
 μ-loop a count₀ b₀ count b = 256 - b
 
-loop-holds : tie.Need-loop-holds Inv-loop μ-loop
-loop-holds c = omega arith
-
-cast-byte : tie.Need-cast-byte Inv-loop μ-loop
-cast-byte c = omega arith
-
-product-requires : tie.Need-product-requires Inv-loop μ-loop
-product-requires c κs = search needs
-
-shift-and-add-requires : tie.Need-shift-and-add-requires Inv-loop μ-loop
-shift-and-add-requires c κs = search needs
-
-add-count : tie.Need-add-count Inv-loop μ-loop
-add-count c = omega arith
-
-add-b : tie.Need-add-b Inv-loop μ-loop
-add-b c = omega arith
-
-loop-less : tie.Need-loop-less Inv-loop μ-loop
-loop-less c = omega arith
-
 loop-again : tie.Need-loop-again Inv-loop μ-loop
 loop-again c = ⊎-elim (λ w. omega arith) (λ w. omega arith) (c .if1 .came)
-
-returns : tie.Need-returns Inv-loop μ-loop
-returns c = omega arith
 
 pub agreeing-spec : {M : Type 1} → statement M
 agreeing-spec =
@@ -45,12 +21,12 @@ agreeing-spec =
     (tie.spec
     Inv-loop
     μ-loop
-    loop-holds
-    cast-byte
-    product-requires
-    shift-and-add-requires
-    add-count
-    add-b
-    loop-less
+    (λ c. omega arith)
+    (λ c. omega arith)
+    (λ c κs. search needs)
+    (λ c κs. search needs)
+    (λ c. omega arith)
+    (λ c. omega arith)
+    (λ c. omega arith)
     loop-again
-    returns)
+    (λ c. omega arith))

@@ -2,7 +2,7 @@
 -- coefficient is 1 takes one coefficient of the dividend at a time. A remainder's checks make a codeword, because at a root
 -- the generator is 0, so that dividend and remainder have the same value there; and a codeword's checks are the remainder,
 -- because a plane has only one list of checks. Assumes nothing.
-use mathlib.Core.Path.{_≡_, refl, sym, _∙_, ap, ap₂}
+use mathlib.Core.Path.{_≡_, sym, _∙_, ap, ap₂}
 use mathlib.Core.Bool.{true}
 use mathlib.Core.List.{List, [], _∷_, _++_, reverse, reverse-cons, reverse-reverse, append-nil, append-assoc}
 use Prim.Native.Nat.{ℕ, zero, suc, _+_, _-_, _≤_, _<_}
@@ -19,17 +19,12 @@ use Rattle.code.specs.Settings.{Settings, settings-refusal, check-count}
 use Rattle.code.specs.Polynomial.{eval, added, scaled, multiplied, root, generator, Remainder}
 use Rattle.code.specs.Plane.{summed, syndrome, is-codeword, data-polynomial, check-polynomial}
 use Rattle.code.specs.Promise.{Checks-remain}
-use Rattle.code.proofs.Lists.Bytes.{Bytes, bytes-of, byte-at, bytes-every, bytes-take, bytes-zeros, bytes-append, bytes-reverse}
+use Rattle.code.proofs.Lists.Bytes.{Bytes, bytes-of, byte-at, bytes-every, bytes-take, bytes-zeros, bytes-append, bytes-reverse, zeros-at}
 use Rattle.code.proofs.Polynomials.Arithmetic.{eval-lt, eval-added, eval-multiplied, eval-append, eval-single, eval-zeros, eval-ext, getD-added, getD-scaled, getD-multiplied, bytes-added, bytes-scaled, bytes-multiplied, length-added, length-scaled}
 use Rattle.code.proofs.Polynomials.Generator.{root-lt, generator-length, generator-root, generator-leading}
 use Rattle.code.proofs.ValidSettings.{Sizes, sizes}
 use Rattle.code.proofs.Codewords.Word.{Shape, word-back}
 use Rattle.code.proofs.Codewords.Near.{plane-unique}
-
-getD-zeros : (n i : ℕ) → _≡_ {A = ℕ} (getD (replicate n 0) i 0) 0
-getD-zeros zero i = refl
-getD-zeros (suc n) zero = refl
-getD-zeros (suc n) (suc i) = getD-zeros n i
 
 -- one coefficient more than the remainder has room for: a multiple of the divisor takes the highest away
 reduced : (m : ℕ) (divisor ds : List ℕ) → List ℕ
@@ -112,7 +107,7 @@ module _ (m : ℕ) (g : List ℕ) (long : length g ≡ suc m) (leading : getD g 
     rest = replicate m 0;
     long = length-replicate m 0;
     rest-bytes = bytes-zeros m;
-    remains = record { quotient = []; quotient-bytes = λ i. omega arith; shorter = omega (arith, length-replicate {A = ℕ} m 0); adds-up = getD-zeros m };
+    remains = record { quotient = []; quotient-bytes = λ i. omega arith; shorter = omega (arith, length-replicate {A = ℕ} m 0); adds-up = zeros-at m };
   }
   divided (d ∷ ds) b = divided-cons d ds (b .0) (divided ds (b .1))
 

@@ -9,15 +9,9 @@ use Rattle.field.proofs.Xor.{bitXor-plus}
 use Rattle.field.proofs.double.Statement.{statement}
 use Rattle.field.proofs.double.Tie as tie
 
-mul-result : tie.Need-mul-result
-mul-result c = search needs
-
 returns : tie.Need-returns
 unfolding doubled
 returns c = simp (lt-ltb _ _ (c .if1 .taken))
-
-mul-result-2 : tie.Need-mul-result-2
-mul-result-2 c = search needs
 
 returns-2 : tie.Need-returns-2
 unfolding doubled
@@ -28,4 +22,4 @@ returns-2 c =
     ∙ ap (λ (x : ℕ). plus x 135) (let e : 2 * (a - 128) ≡ 2 * a - 256 = omega arith in e))
 
 pub double-spec : {M : Type 1} → statement M
-double-spec = tie.close (tie.spec mul-result returns mul-result-2 returns-2)
+double-spec = tie.close (tie.spec (λ c. search needs) returns (λ c. search needs) returns-2)

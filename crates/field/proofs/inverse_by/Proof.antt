@@ -31,12 +31,6 @@ exponent-small c =
 positive : (c : tie.After-wide) → 1 ≤ c .wide .result
 positive c = exponent-positive (c .before .before .before .args .a) _ (exponent c) (c .before .before .if1 .left)
 
-element-copy-out-wide : tie.Need-element-copy-out-wide
-element-copy-out-wide c = search needs
-
-wide-requires : tie.Need-wide-requires
-wide-requires c κs = search needs
-
 sub-result : tie.Need-sub-result
 sub-result c = omega (arith, exponent-small c)
 
@@ -52,4 +46,4 @@ returns-2 c =
 pub inverse-by-spec : {M : Type 1} → statement M
 inverse-by-spec =
     tie.close
-    (tie.spec returns element-copy-out-wide wide-requires sub-result element-copy-out-result returns-2)
+    (tie.spec returns (λ c. search needs) (λ c κs. search needs) sub-result element-copy-out-result returns-2)

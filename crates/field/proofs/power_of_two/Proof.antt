@@ -7,17 +7,8 @@ use Rattle.field.proofs.Table.{powers-at}
 use Rattle.field.proofs.power_of_two.Statement.{statement}
 use Rattle.field.proofs.power_of_two.Tie as tie
 
-powers-requires : tie.Need-powers-requires
-powers-requires c κs = search needs
-
-cast-result : tie.Need-cast-result
-cast-result c = search needs
-
-array-read-result : tie.Need-array-read-result
-array-read-result c = search needs
-
 returns : tie.Need-returns
 returns c = powers-at (c .powers .result) (c .powers .ensures) _ (omega arith) ∙ power-mod (c .before .args .exponent)
 
 pub power-of-two-spec : {M : Type 1} → statement M
-power-of-two-spec = tie.close (tie.spec powers-requires cast-result array-read-result returns)
+power-of-two-spec = tie.close (tie.spec (λ c κs. search needs) (λ c. search needs) (λ c. search needs) returns)

@@ -21,7 +21,7 @@ use Rattle.code.proofs.Lists.Tests.{and-split, all-from, all-below-at}
 use Rattle.code.proofs.Codewords.Word.{Shape}
 use Rattle.code.proofs.Codewords.Quick.{quick-summed, summed-quick}
 use Rattle.locator.specs.Locator.{massey, value}
-use Rattle.locator.specs.Errors.{exponent, error-sum, Located, Explained}
+use Rattle.locator.specs.Errors.{error-sum, Located, Explained, place-exponent}
 use Rattle.locator.proofs.Decoding.Complete.{near-explained}
 use Rattle.grading.specs.Value.{Vector}
 use Rattle.grading.proofs.Bool.{true-not-false}
@@ -37,7 +37,7 @@ sum-quick s bs cs i = sym (ap₂ plus (summed-quick i 254 bs) (summed-quick i (c
 
 -- no error told at a place
 unfoldable pub right-at : Settings → (S : ℕ → ℕ) → (locator : List ℕ) → (j : ℕ) → Bool
-right-at s S ps j = eqb (value S ps (doublings (exponent s j) 1)) 0
+right-at s S ps j = eqb (value S ps (doublings (place-exponent (s .n) (check-count s) j) 1)) 0
 
 -- a plane that is tested
 unfoldable pub plane-none : Settings → (bytes checks : List ℕ) → Bool
@@ -60,7 +60,7 @@ none-near s bs cs us ds fine e near =
     many = s .n + check-count s
 
     told : ℕ → ℕ
-    told j = value (quick-sum s bs cs) (massey (quick-sum s bs cs) (check-count s) .locator) (doublings (exponent s j) 1)
+    told j = value (quick-sum s bs cs) (massey (quick-sum s bs cs) (check-count s) .locator) (doublings (place-exponent (s .n) (check-count s) j) 1)
 
     parts : ((((eqb (length bs) (s .n) && eqb (length cs) (check-count s)) && (byte-list bs && byte-list cs)) ≡ true)
         × (((ltb 0 (check-count s) && not (eqb (plus (quick-sum s bs cs 0) 0) 0)) && all-from many 0 (λ j. eqb (told j) 0)) ≡ true))
@@ -93,7 +93,7 @@ none-near s bs cs us ds fine e near =
           each =
               λ j h.
               zeros-at many j ∙ sym (eqb-true (told j) 0 (all-below-at many (λ i. eqb (told i) 0) (tests .1) j h))
-              ∙ ap (value (quick-sum s bs cs) (massey (quick-sum s bs cs) (check-count s) .locator)) (sym (power-doublings (exponent s j)));
+              ∙ ap (value (quick-sum s bs cs) (massey (quick-sum s bs cs) (check-count s) .locator)) (sym (power-doublings (place-exponent (s .n) (check-count s) j)));
         }
 
     explained : Explained s (quick-sum s bs cs) (replicate many 0)

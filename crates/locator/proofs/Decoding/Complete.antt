@@ -16,12 +16,12 @@ use Rattle.code.proofs.Codewords.Place.{Place, Byte-places, Different, All-zero
 use Rattle.code.proofs.Codewords.PowerSum.{power-sum}
 use Rattle.code.proofs.ValidSettings.{sizes}
 use Rattle.code.proofs.Codewords.Word.{Shape, Word, word-of, word-errors, word-errors-bytes, word-errors-count, word-errors-different, word-errors-sum}
+use Rattle.code.proofs.Codewords.Linear.{syndrome-lt}
 use Rattle.locator.specs.Locator.{massey, value}
 use Rattle.locator.specs.Errors.{Located, Explained}
 use Rattle.locator.proofs.Locator.Shape.{massey-shape}
 use Rattle.locator.proofs.Locator.Size.{size-le-nonzero, roots-all}
 use Rattle.locator.proofs.Locator.Roots.{in-at, value-at-place}
-use Rattle.code.proofs.Codewords.Linear.{syndrome-lt}
 use Rattle.locator.proofs.Errors.Places.{placed, placed-sum, placed-nonzero, word-errors-length, word-errors-power, placed-word-errors}
 
 module _ (s : Settings) (bs cs us ds : List ℕ) (S : ℕ → ℕ) (r : settings-refusal s ≡ 0) (v : Shape s bs cs) (same : (i : ℕ) → i < check-count s → S i ≡ syndrome s i bs cs) (near : Near s bs cs us ds) where

@@ -2,41 +2,25 @@
 -- differences, so its syndromes are the sums S plus those of the errors, which are zero; and it differs from the word only where
 -- a weighted error is not zero, in at most t places. Assumes nothing.
 use mathlib.Core.Path.{_≡_, sym, _∙_, ap, ap₂}
-use mathlib.Core.Bool.{Bool, true, false, cond}
-use mathlib.Core.List.{List, [], _∷_, _++_}
-use Prim.Native.Nat.{ℕ, zero, suc, _+_, _-_, _<_}
+use mathlib.Core.List.{List, _++_}
+use Prim.Native.Nat.{ℕ, suc, _+_, _-_, _<_}
 use native.Mathlib.Omega.{arith}
-use lib.Dec.{eqb}
 use lib.ListN.{length, take, drop, length-drop, take-append-drop}
 use lib.Seq.{length-take-le}
-use Rattle.field.specs.Field.{plus, times, inverse}
-use Rattle.field.proofs.Times.{times-lt}
+use Rattle.field.specs.Field.{plus}
+use Rattle.field.proofs.Xor.{plus-again}
 use Rattle.code.specs.Settings.{Settings, settings-refusal, check-count}
-use Rattle.code.specs.Polynomial.{eval}
 use Rattle.code.specs.Plane.{syndrome}
 use Rattle.code.specs.Repair.{Near}
-use Rattle.code.proofs.Lists.Bytes.{Bytes}
+use Rattle.code.proofs.Lists.Bytes.{Bytes, bytes-take, bytes-drop}
 use Rattle.code.proofs.Codewords.PowerSum.{power-sum}
 use Rattle.code.proofs.ValidSettings.{sizes}
 use Rattle.code.proofs.Codewords.Word.{Shape, word-back, word-errors, word-errors-sum}
-use Rattle.locator.specs.Locator.{against, quotient, value}
-use Rattle.locator.specs.Errors.{exponent, mended, wrong-places, Explained}
-use Rattle.field.proofs.Xor.{plus-again}
 use Rattle.code.proofs.Codewords.Linear.{syndrome-lt}
-use Rattle.locator.proofs.Errors.Places.{exponent-column, exponent-check, placed, placed-sum, placed-append}
+use Rattle.locator.specs.Errors.{mended, wrong-places, Explained, place-exponent}
+use Rattle.locator.proofs.Errors.Places.{place-exponent-column, place-exponent-next, placed, placed-sum, placed-append}
 use Rattle.locator.proofs.Errors.Totals.{wrong-places-append}
 use Rattle.locator.proofs.Errors.Mended.{mended-length, mended-bytes, mended-differ, mended-errors}
-
--- the two parts of the weighted errors
-bytes-take : (n : ℕ) (ys : List ℕ) → Bytes ys → Bytes (take n ys)
-bytes-take zero ys b = tt
-bytes-take (suc n) [] b = tt
-bytes-take (suc n) (y ∷ ys) b = (b .0, bytes-take n ys (b .1))
-
-bytes-drop : (n : ℕ) (ys : List ℕ) → Bytes ys → Bytes (drop n ys)
-bytes-drop zero ys b = b
-bytes-drop (suc n) [] b = tt
-bytes-drop (suc n) (y ∷ ys) b = bytes-drop n ys (b .1)
 
 module _ (s : Settings) (bs cs ys : List ℕ) (S : ℕ → ℕ) (r : settings-refusal s ≡ 0) (v : Shape s bs cs) (same : (i : ℕ) → i < check-count s → S i ≡ syndrome s i bs cs) (long : length ys ≡ s .n + check-count s) (bytes : Bytes ys) (h : Explained s S ys) where
   abbrev us : List ℕ
@@ -66,9 +50,9 @@ module _ (s : Settings) (bs cs ys : List ℕ) (S : ℕ → ℕ) (r : settings-re
       let z = sizes s r in
       ap₂ _++_
       (mended-errors s 255 0 bs (take (s .n) ys) columns-long (omega arith) (bytes-take (s .n) ys bytes)
-      (λ i k e l. exponent-column s k (omega arith) ∙ (let q : 254 - k ≡ 255 - suc i = omega arith in q)))
+      (λ i k e l. place-exponent-column (s .n) (check-count s) k (omega arith) ∙ (let q : 254 - k ≡ 255 - suc i = omega arith in q)))
       (mended-errors s (check-count s) (s .n) cs (drop (s .n) ys) checks-long (omega arith) (bytes-drop (s .n) ys bytes)
-      (λ i k e l. ap (exponent s) e ∙ exponent-check s i))
+      (λ i k e l. ap (place-exponent (s .n) (check-count s)) e ∙ place-exponent-next (s .n) (check-count s) i))
       ∙ sym (placed-append s 0 (s .n) (take (s .n) ys) (drop (s .n) ys) (omega (arith, columns-long))) ∙ ap (placed s 0) (take-append-drop (s .n) ys)
 
   root : (i : ℕ) → i < check-count s → syndrome s i us ds ≡ 0
@@ -92,12 +76,3 @@ module _ (s : Settings) (bs cs ys : List ℕ) (S : ℕ → ℕ) (r : settings-re
               h .few,
             );
       }
-
--- what the locator tells is a byte
-pub value-lt : (S : ℕ → ℕ) (ps : List ℕ) (x : ℕ) → value S ps x < 256
-unfolding value
-value-lt S ps x = go (eqb (eval ps x) 0)
-  where
-    go : (t : Bool) → cond t (times (against (quotient x ps) S 0) (inverse (eval (quotient x ps) x))) 0 < 256
-    go true = times-lt _ _
-    go false = omega arith

@@ -13,13 +13,13 @@ use Rattle.field.proofs.Times.{times-lt, zero-times}
 use Rattle.field.proofs.Power.{power-lt, power-nonzero}
 use Rattle.field.proofs.Division.{divide-times}
 use Rattle.code.specs.Polynomial.{first-exponent}
-use Rattle.code.specs.Settings.{Settings}
+use Rattle.code.specs.Settings.{Settings, check-count}
 use Rattle.code.specs.Plane.{differ}
 use Rattle.code.proofs.Lists.Bytes.{Bytes}
 use Rattle.code.proofs.Lists.Tests.{count-le}
 use Rattle.code.proofs.Codewords.Place.{Place}
 use Rattle.code.proofs.Codewords.Errors.{errors}
-use Rattle.locator.specs.Errors.{exponent, error-byte, mended, wrong-places}
+use Rattle.locator.specs.Errors.{error-byte, mended, wrong-places, place-exponent}
 use Rattle.locator.proofs.Errors.Places.{placed}
 
 pub mended-length : (s : Settings) (j : ℕ) (bs ys : List ℕ) → length (mended s j bs ys) ≡ length bs
@@ -46,7 +46,7 @@ mended-at s i (b ∷ bs) (y ∷ ys) (suc j) k e h l = mended-at s (suc i) bs ys 
 -- they differ only where a weighted error is not zero
 no-error : (s : Settings) (j b y : ℕ) → b < 256 → y ≡ 0 → b ≡ plus b (error-byte s j y)
 unfolding error-byte
-no-error s j b y h e = sym (ap (plus b) (ap (λ (z : ℕ). times z (inverse (power 2 (first-exponent * exponent s j)))) e ∙ zero-times _) ∙ plus-zero b h)
+no-error s j b y h e = sym (ap (plus b) (ap (λ (z : ℕ). times z (inverse (power 2 (first-exponent * place-exponent (s .n) (check-count s) j)))) e ∙ zero-times _) ∙ plus-zero b h)
 
 pub mended-differ : (s : Settings) (j : ℕ) (bs ys : List ℕ) → Bytes bs → length bs ≡ length ys → differ bs (mended s j bs ys) ≤ wrong-places ys
 unfolding mended differ wrong-places
@@ -61,15 +61,15 @@ mended-differ s j (b ∷ bs) (y ∷ ys) c e =
 
 -- and their differences are the weighted errors
 weighted-again :
-    (s : Settings) (j b y : ℕ) → y < 256 → times (plus b (plus b (error-byte s j y))) (power 2 (first-exponent * exponent s j)) ≡ y
+    (s : Settings) (j b y : ℕ) → y < 256 → times (plus b (plus b (error-byte s j y))) (power 2 (first-exponent * place-exponent (s .n) (check-count s) j)) ≡ y
 unfolding error-byte
 weighted-again s j b y h =
-    ap (λ (z : ℕ). times z (power 2 (first-exponent * exponent s j))) (plus-again b _ (times-lt _ _))
-    ∙ divide-times y (power 2 (first-exponent * exponent s j)) h (power-lt 2 _) (power-nonzero _)
+    ap (λ (z : ℕ). times z (power 2 (first-exponent * place-exponent (s .n) (check-count s) j))) (plus-again b _ (times-lt _ _))
+    ∙ divide-times y (power 2 (first-exponent * place-exponent (s .n) (check-count s) j)) h (power-lt 2 _) (power-nonzero _)
 
 pub mended-errors :
     (s : Settings) (m j : ℕ) (bs ys : List ℕ) → length bs ≡ length ys → length bs ≤ m → Bytes ys →
-    ((i k : ℕ) → k ≡ j + i → i < length bs → exponent s k ≡ m - suc i) → errors m bs (mended s j bs ys) ≡ placed s j ys
+    ((i k : ℕ) → k ≡ j + i → i < length bs → place-exponent (s .n) (check-count s) k ≡ m - suc i) → errors m bs (mended s j bs ys) ≡ placed s j ys
 unfolding errors mended placed
 mended-errors s zero j [] [] e h c x = refl
 mended-errors s zero j [] (y ∷ ys) e h c x = absurd (omega arith)
@@ -80,9 +80,9 @@ mended-errors s (suc m) j (b ∷ bs) [] e h c x = absurd (omega arith)
 mended-errors s (suc m) j (b ∷ bs) (y ∷ ys) e h c x =
     ap₂ _∷_
     (ap {B = Place} (λ (k : ℕ). record { x = power 2 k; y = times (plus b (plus b (error-byte s j y))) (power 2 (first-exponent * k)) }) (sym top)
-    ∙ ap {B = Place} (λ (z : ℕ). record { x = power 2 (exponent s j); y = z }) (weighted-again s j b y (c .0)))
+    ∙ ap {B = Place} (λ (z : ℕ). record { x = power 2 (place-exponent (s .n) (check-count s) j); y = z }) (weighted-again s j b y (c .0)))
     (mended-errors s m (suc j) bs ys (omega arith) (omega arith) (c .1)
     (λ i k q l. x (suc i) k (omega arith) (omega arith) ∙ (let r : suc m - suc (suc i) ≡ m - suc i = omega arith in r)))
   where
-    top : exponent s j ≡ m
+    top : place-exponent (s .n) (check-count s) j ≡ m
     top = x 0 j (omega arith) (omega arith) ∙ (let r : suc m - 1 ≡ m = omega arith in r)

@@ -16,13 +16,9 @@ use Rattle.code.proofs.Codewords.PowerSum.{power-sum}
 use Rattle.code.proofs.Codewords.Errors.{errors}
 use Rattle.code.proofs.ValidSettings.{Sizes}
 use Rattle.code.proofs.Codewords.Word.{Shape, word-errors}
-use Rattle.locator.specs.Errors.{place-exponent, exponent, wrong-places, error-sum}
+use Rattle.locator.specs.Errors.{place-exponent, wrong-places, error-sum}
 
 -- columns and checks
-pub place-exponent-settings : (s : Settings) (j : ℕ) → exponent s j ≡ place-exponent (s .n) (check-count s) j
-unfolding exponent
-place-exponent-settings s j = refl
-
 pub place-exponent-column : (n checks j : ℕ) → j < n → place-exponent n checks j ≡ 254 - j
 unfolding place-exponent
 place-exponent-column n checks j h = rw (lt-ltb j n h)
@@ -31,11 +27,8 @@ pub place-exponent-check : (n checks j : ℕ) → n ≤ j → place-exponent n c
 unfolding place-exponent
 place-exponent-check n checks j h = rw (le-ltb j n h)
 
-pub exponent-column : (s : Settings) (j : ℕ) → j < s .n → exponent s j ≡ 254 - j
-exponent-column s j h = place-exponent-settings s j ∙ place-exponent-column (s .n) (check-count s) j h
-
-pub exponent-check : (s : Settings) (c : ℕ) → exponent s (s .n + c) ≡ check-count s - suc c
-exponent-check s c = place-exponent-settings s (s .n + c) ∙ place-exponent-check (s .n) (check-count s) (s .n + c) (omega arith) ∙ omega arith
+pub place-exponent-next : (n checks c : ℕ) → place-exponent n checks (n + c) ≡ checks - suc c
+place-exponent-next n checks c = place-exponent-check n checks (n + c) (omega arith) ∙ omega arith
 
 pub by-place :
     (s : Settings) (P : ℕ → Type 0) → ((j : ℕ) → j < s .n → P j) → ((c : ℕ) → c < check-count s → P (s .n + c)) →
@@ -49,7 +42,7 @@ by-place s P f g j h = go (decLt j (s .n))
 -- weighted errors from place j on, as places
 unfoldable pub placed : Settings → (j : ℕ) → (weighted : List ℕ) → List Place
 placed s j [] = []
-placed s j (y ∷ ys) = record { x = power 2 (exponent s j); y = y } ∷ placed s (suc j) ys
+placed s j (y ∷ ys) = record { x = power 2 (place-exponent (s .n) (check-count s) j); y = y } ∷ placed s (suc j) ys
 
 pub placed-sum : (s : Settings) (i j : ℕ) (ys : List ℕ) → power-sum i (placed s j ys) ≡ error-sum s i j ys
 unfolding placed power-sum error-sum
@@ -65,7 +58,7 @@ pub placed-append : (s : Settings) (j k : ℕ) (xs ys : List ℕ) → k ≡ j + 
 unfolding placed
 placed-append s j k [] ys e = ap (λ (i : ℕ). placed s i ys) (let q : j ≡ k = omega arith in q)
 placed-append s j k (x ∷ xs) ys e =
-    let p : Place = record { x = power 2 (exponent s j); y = x } in ap (_∷_ p) (placed-append s (suc j) k xs ys (omega arith))
+    let p : Place = record { x = power 2 (place-exponent (s .n) (check-count s) j); y = x } in ap (_∷_ p) (placed-append s (suc j) k xs ys (omega arith))
 
 placed-length : (s : Settings) (j : ℕ) (ys : List ℕ) → length (placed s j ys) ≡ length ys
 unfolding placed
@@ -74,11 +67,11 @@ placed-length s j (y ∷ ys) = ap suc (placed-length s (suc j) ys)
 
 placed-at :
     (s : Settings) (i : ℕ) (ys : List ℕ) (j k : ℕ) (p : Place) → k ≡ i + j → j < length ys →
-    getD (placed s i ys) j p ≡ record { x = power 2 (exponent s k); y = getD ys j 0 }
+    getD (placed s i ys) j p ≡ record { x = power 2 (place-exponent (s .n) (check-count s) k); y = getD ys j 0 }
 unfolding placed
 placed-at s i [] j k p e h = absurd (omega arith)
 placed-at s i (y ∷ ys) zero k p e h =
-    ap {B = Place} (λ (m : ℕ). record { x = power 2 (exponent s m); y = y }) (let q : i ≡ k = omega arith in q)
+    ap {B = Place} (λ (m : ℕ). record { x = power 2 (place-exponent (s .n) (check-count s) m); y = y }) (let q : i ≡ k = omega arith in q)
 placed-at s i (y ∷ ys) (suc j) k p e h = placed-at s (suc i) ys j k p (omega arith) (omega arith)
 
 -- the places of two words have the powers of their numbers
@@ -113,19 +106,19 @@ module _ (s : Settings) (bs cs us ds : List ℕ) (z : Sizes s) (v : Shape s bs c
   unfolding word-errors
   word-errors-length = length-append (errors 255 bs us) (errors (check-count s) cs ds) ∙ ap₂ _+_ columns-length checks-length
 
-  pub word-errors-power : (p : Place) (j : ℕ) → j < s .n + check-count s → getD (word-errors s bs cs us ds) j p .x ≡ power 2 (exponent s j)
+  pub word-errors-power : (p : Place) (j : ℕ) → j < s .n + check-count s → getD (word-errors s bs cs us ds) j p .x ≡ power 2 (place-exponent (s .n) (check-count s) j)
   unfolding word-errors
   word-errors-power p =
-      by-place s (λ j. getD (errors 255 bs us ++ errors (check-count s) cs ds) j p .x ≡ power 2 (exponent s j))
+      by-place s (λ j. getD (errors 255 bs us ++ errors (check-count s) cs ds) j p .x ≡ power 2 (place-exponent (s .n) (check-count s) j))
       (λ j h.
       ap (λ (q : Place). q .x) (List·getD-append (errors 255 bs us) (errors (check-count s) cs ds) p j (rw columns-length h))
       ∙ errors-power 255 bs us j p (omega arith) (v .many ∙ sym (w .many)) (omega arith)
-      ∙ ap (power 2) ((let e : 255 - suc j ≡ 254 - j = omega arith in e) ∙ sym (exponent-column s j h)))
+      ∙ ap (power 2) ((let e : 255 - suc j ≡ 254 - j = omega arith in e) ∙ sym (place-exponent-column (s .n) (check-count s) j h)))
       (λ c h.
       ap (λ (i : ℕ). getD (errors 255 bs us ++ errors (check-count s) cs ds) (i + c) p .x) (sym columns-length)
       ∙ ap (λ (q : Place). q .x) (getD-append-add (errors 255 bs us) (errors (check-count s) cs ds) c p)
       ∙ errors-power (check-count s) cs ds c p (omega arith) (v .many-checks ∙ sym (w .many-checks)) (omega arith)
-      ∙ ap (power 2) (sym (exponent-check s c)))
+      ∙ ap (power 2) (sym (place-exponent-next (s .n) (check-count s) c)))
 
   pub placed-word-errors :
       (p : Place) (ys : List ℕ) → length ys ≡ s .n + check-count s →

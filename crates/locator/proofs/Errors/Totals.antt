@@ -11,8 +11,8 @@ use lib.Seq.{take-suc, drop-cons, length-take-le}
 use Rattle.field.specs.Field.{plus, times, power}
 use Rattle.field.proofs.Xor.{plus-assoc, plus-lt, plus-zero, zero-plus}
 use Rattle.field.proofs.Times.{times-lt}
-use Rattle.code.specs.Settings.{Settings}
-use Rattle.locator.specs.Errors.{exponent, wrong-places, error-sum}
+use Rattle.code.specs.Settings.{Settings, check-count}
+use Rattle.locator.specs.Errors.{wrong-places, error-sum, place-exponent}
 
 -- the sum
 pub error-sum-lt : (s : Settings) (i j : ℕ) (ys : List ℕ) → error-sum s i j ys < 256
@@ -29,7 +29,7 @@ error-sum-append s i j k (x ∷ xs) ys e = ap (plus _) (error-sum-append s i (su
 
 pub error-sum-take :
     (s : Settings) (i j : ℕ) (ys : List ℕ) → j < length ys →
-    error-sum s i 0 (take (suc j) ys) ≡ plus (error-sum s i 0 (take j ys)) (times (getD ys j 0) (power (power 2 (exponent s j)) i))
+    error-sum s i 0 (take (suc j) ys) ≡ plus (error-sum s i 0 (take j ys)) (times (getD ys j 0) (power (power 2 (place-exponent (s .n) (check-count s) j)) i))
 unfolding error-sum
 error-sum-take s i j ys h =
     ap (error-sum s i 0) (take-suc ys j 0 h)
@@ -38,7 +38,7 @@ error-sum-take s i j ys h =
 
 pub error-sum-drop :
     (s : Settings) (i j : ℕ) (ys : List ℕ) → j < length ys →
-    error-sum s i j (drop j ys) ≡ plus (times (getD ys j 0) (power (power 2 (exponent s j)) i)) (error-sum s i (suc j) (drop (suc j) ys))
+    error-sum s i j (drop j ys) ≡ plus (times (getD ys j 0) (power (power 2 (place-exponent (s .n) (check-count s) j)) i)) (error-sum s i (suc j) (drop (suc j) ys))
 unfolding error-sum
 error-sum-drop s i j ys h = ap (error-sum s i j) (drop-cons ys j 0 h)
 

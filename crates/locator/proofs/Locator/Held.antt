@@ -10,14 +10,14 @@ use Rattle.field.specs.Field.{plus, times, inverse}
 use Rattle.field.proofs.Division.{inverse-lt}
 use Rattle.code.specs.Size.{plane-room}
 use Rattle.code.specs.Polynomial.{added, scaled}
-use Rattle.code.proofs.Lists.Bytes.{byte-at, bytes-every}
+use Rattle.code.proofs.Lists.Bytes.{byte-at, bytes-every, zeros-at}
 use Rattle.code.proofs.Polynomials.Arithmetic.{getD-added, getD-scaled, bytes-scaled, length-added, length-scaled}
 use Rattle.locator.specs.Locator.{State, against, raised, start, longer, as-long, changed, massey}
 use Rattle.locator.specs.Held.{Holds, Stands, Fitting, Carries, located}
 use Rattle.locator.specs.declared.berlekamp.Locator.{Locator}
 use Rattle.locator.proofs.Polynomials.Raised.{raised-length, raised-bytes}
 use Rattle.locator.proofs.Locator.Shape.{changed-none, changed-longer, changed-as-long, massey-shape, locator-length, locator-bytes}
-use Rattle.locator.proofs.Polynomials.Coefficients.{holds-take, holds-bytes, same-raised, holds-added, added-middle, zeros-at, holds-none, Remade, holds-remade}
+use Rattle.locator.proofs.Polynomials.Coefficients.{holds-take, holds-bytes, same-raised, holds-added, added-middle, holds-none, Remade, holds-remade}
 
 pub massey-fitting : (S : ℕ → ℕ) (k : ℕ) → Fitting k (massey S k)
 massey-fitting S k =

@@ -13,7 +13,7 @@ use Rattle.field.proofs.Xor.{plus-zero}
 use Rattle.field.proofs.Times.{times-zero}
 use Rattle.code.specs.Size.{plane-room}
 use Rattle.code.specs.Polynomial.{added, scaled}
-use Rattle.code.proofs.Lists.Bytes.{Bytes, byte-at, bytes-every}
+use Rattle.code.proofs.Lists.Bytes.{Bytes, byte-at, bytes-every, zeros-at}
 use Rattle.code.proofs.Polynomials.Arithmetic.{getD-added, getD-scaled, bytes-scaled, length-added, length-scaled}
 use Rattle.locator.specs.Locator.{raised}
 use Rattle.locator.specs.Held.{Holds}
@@ -101,11 +101,6 @@ added-turn c (suc i) (x ∷ p) (y ∷ q) h l =
     ap (λ (r : List ℕ). plus x (times c y) ∷ r) (added-turn c i p q (omega arith) (omega arith))
 
 -- an array of zeros holds nothing
-pub zeros-at : (n i : ℕ) → getD {A = ℕ} (replicate n 0) i 0 ≡ 0
-zeros-at zero i = refl
-zeros-at (suc n) zero = refl
-zeros-at (suc n) (suc i) = zeros-at n i
-
 pub holds-none : Holds (replicate plane-room 0) []
 holds-none = record { long = refl; at = zeros-at plane-room }
 

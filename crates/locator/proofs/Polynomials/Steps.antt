@@ -2,14 +2,17 @@
 -- over what is left of the polynomial; and the quotient by x + c needs no array, since its coefficients are the values at c of
 -- what is left. Assumes nothing.
 use mathlib.Core.Path.{_≡_, refl, sym, _∙_, ap}
+use mathlib.Core.Bool.{Bool, true, false, cond}
 use mathlib.Core.List.{List, [], _∷_}
 use Prim.Native.Nat.{ℕ, suc, _<_}
+use native.Mathlib.Omega.{arith}
+use lib.Dec.{eqb}
 use lib.ListN.{length, getD, drop}
 use lib.Seq.{drop-cons}
 use borrow.Author.Tests.{eq-eqb, ne-eqb}
 use Rattle.field.specs.Field.{plus, times, inverse}
 use Rattle.field.proofs.Xor.{plus-self}
-use Rattle.field.proofs.Times.{zero-times, times-zero}
+use Rattle.field.proofs.Times.{zero-times, times-zero, times-lt}
 use Rattle.code.specs.Polynomial.{eval}
 use Rattle.locator.specs.Locator.{against, quotient, value}
 
@@ -55,3 +58,11 @@ value-root S ps x e = rw (eq-eqb (eval ps x) 0 e)
 pub value-no-root : (S : ℕ → ℕ) (ps : List ℕ) (x : ℕ) → (eval ps x ≡ 0 → ⊥) → value S ps x ≡ 0
 unfolding value
 value-no-root S ps x e = rw (ne-eqb (eval ps x) 0 e)
+
+pub value-lt : (S : ℕ → ℕ) (ps : List ℕ) (x : ℕ) → value S ps x < 256
+unfolding value
+value-lt S ps x = go (eqb (eval ps x) 0)
+  where
+    go : (t : Bool) → cond t (times (against (quotient x ps) S 0) (inverse (eval (quotient x ps) x))) 0 < 256
+    go true = times-lt _ _
+    go false = omega arith

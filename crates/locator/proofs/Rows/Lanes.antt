@@ -11,9 +11,7 @@ use lib.ListN.{length, getD, set, length-set}
 use lib.Seq.{getD-set-same, getD-set-other}
 use borrow.Author.Count.{below-more}
 use borrow.Author.Tests.{eq-eqb, ne-eqb}
-use Rattle.code.specs.Polynomial.{eval}
 use Rattle.code.specs.Steps.Lanes.{in-row, lane}
-use Rattle.locator.specs.Locator.{value}
 use Rattle.locator.specs.Errors.{wrong-places}
 use Rattle.locator.specs.Plane.{Lane-written}
 use Rattle.code.proofs.Vectors.Lane.{lane-more}
@@ -59,8 +57,3 @@ one-wrong-more p many bs h = rw (ne-eqb _ _ h) at (wrong-places-more p many bs)
 pub none-wrong-more :
     (p many : ℕ) (bs : List ℕ) → getD bs (in-row many p) 0 ≡ 0 → wrong-places (lane p (many + 1) bs) ≡ wrong-places (lane p many bs)
 none-wrong-more p many bs h = omega (arith, rw (eq-eqb _ _ h) at (wrong-places-more p many bs))
-
--- the error where a place is no root
-pub value-elsewhere : (S : ℕ → ℕ) (ps : List ℕ) (x : ℕ) → (eval ps x ≡ 0 → ⊥) → value S ps x ≡ 0
-unfolding value
-value-elsewhere S ps x h = rw (ne-eqb (eval ps x) 0 h)

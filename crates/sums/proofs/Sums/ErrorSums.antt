@@ -19,11 +19,11 @@ use Rattle.code.specs.Settings.{Settings, check-count}
 use Rattle.code.specs.Steps.Array.{Written}
 use Rattle.code.specs.Steps.Lanes.{in-row, lane}
 use Rattle.code.proofs.Written.{all-zero, zero-at}
-use Rattle.locator.specs.Errors.{place-exponent, exponent, error-sum}
+use Rattle.code.proofs.Vectors.Lane.{lane-length, lane-more, lane-zeros}
+use Rattle.locator.specs.Errors.{place-exponent, error-sum}
+use Rattle.locator.proofs.Errors.Totals.{error-sum-append}
 use Rattle.sums.specs.Rows.{Zeros-as, Error-sums, residue, Explained-as}
 use Rattle.sums.proofs.Sums.Terms.{Terms-added}
-use Rattle.locator.proofs.Errors.Totals.{error-sum-append}
-use Rattle.code.proofs.Vectors.Lane.{lane-length, lane-more, lane-zeros}
 
 error-sum-zeros : (s : Settings) (i j n : ℕ) → error-sum s i j (replicate n 0) ≡ 0
 unfolding error-sum
@@ -31,11 +31,11 @@ error-sum-zeros s i j zero = refl
 error-sum-zeros s i j (suc n) = ap₂ plus (zero-times _) (error-sum-zeros s i (suc j) n) ∙ plus-zero 0 (omega arith)
 
 -- place by place
-error-sum-single : (s : Settings) (i j y : ℕ) → error-sum s i j (y ∷ []) ≡ times y (power 2 (0 + i * exponent s j))
+error-sum-single : (s : Settings) (i j y : ℕ) → error-sum s i j (y ∷ []) ≡ times y (power 2 (0 + i * place-exponent (s .n) (check-count s) j))
 unfolding error-sum
 error-sum-single s i j y =
-    plus-zero _ (times-lt _ _)
-    ∙ ap (times y) (power-mul (exponent s j) i ∙ ap (power 2) (mul-comm (exponent s j) i ∙ (let q : i * exponent s j ≡ 0 + i * exponent s j = omega arith in q)))
+    let e = place-exponent (s .n) (check-count s) j in
+    plus-zero _ (times-lt _ _) ∙ ap (times y) (power-mul e i ∙ ap (power 2) (let q : e * i ≡ 0 + i * e = omega (arith, mul-comm e i) in q))
 
 pub error-sums-none : (n count : ℕ) (weighted sums : List ℕ) → length sums ≡ check-rows → all-zero sums ≡ true → Error-sums 0 n count weighted sums
 unfolding lane error-sum
@@ -45,7 +45,6 @@ pub error-sums-more :
     (j e n count : ℕ) (weighted row sums now : List ℕ) → e ≡ place-exponent n count j →
     Error-sums j n count weighted sums → ((p : ℕ) → p < row-width → getD row p 0 ≡ getD weighted (in-row j p) 0) → Terms-added count (λ i. power 2 (0 + i * e)) row sums now →
     Error-sums (j + 1) n count weighted now
-unfolding exponent
 error-sums-more j e n count weighted row sums now q s r t =
     record {
       long = t .long ∙ s .long;

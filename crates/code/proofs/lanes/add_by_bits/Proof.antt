@@ -15,32 +15,15 @@ Inv-loop value constants rows₀ doublings j₀ rows j = (j ≤ length constants
 abbrev μ-loop : tie.MeasureT-loop
 μ-loop value constants rows₀ doublings j₀ rows j = length constants - j
 
-doublings-requires : tie.Need-doublings-requires Inv-loop μ-loop
-doublings-requires c κs = search needs
-
 loop-holds : tie.Need-loop-holds Inv-loop μ-loop
 loop-holds c = (omega arith, products-none _ _ _)
 
-shared-slice-read-add-product : tie.Need-shared-slice-read-add-product Inv-loop μ-loop
-shared-slice-read-add-product c = omega arith
-
-mul-add-product : tie.Need-mul-add-product Inv-loop μ-loop
-mul-add-product c = omega arith
-
-add-product-requires : tie.Need-add-product-requires Inv-loop μ-loop
-add-product-requires c κs = search needs
-
-add-j : tie.Need-add-j Inv-loop μ-loop
-add-j c = omega arith
-
-loop-less : tie.Need-loop-less Inv-loop μ-loop
-loop-less c = omega arith
-
 loop-again : tie.Need-loop-again Inv-loop μ-loop
 loop-again c =
-    let l = c .before .before .before .before .before .before .before in (
+    let added = c .before .before in
+    let l = added .before .before .before .before .before in (
       omega arith,
-      products-next _ _ _ _ _ _ _ (l .loop .inv .1) (c .before .before .add-product .ensures _ (l .before .doublings .ensures)) (λ p h. refl),
+      products-next _ _ _ _ _ _ _ (l .loop .inv .1) (added .add-product .ensures _ (l .before .doublings .ensures)) (λ p h. refl),
     )
 
 same-length : tie.Need-same-length Inv-loop μ-loop
@@ -55,13 +38,13 @@ add-by-bits-spec =
     (tie.spec
     Inv-loop
     μ-loop
-    doublings-requires
+    (λ c κs. search needs)
     loop-holds
-    shared-slice-read-add-product
-    mul-add-product
-    add-product-requires
-    add-j
-    loop-less
+    (λ c. omega arith)
+    (λ c. omega arith)
+    (λ c κs. search needs)
+    (λ c. omega arith)
+    (λ c. omega arith)
     loop-again
     same-length
     returns)

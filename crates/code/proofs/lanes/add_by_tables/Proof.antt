@@ -15,14 +15,8 @@ Inv-loop value constants rows₀ low high j₀ rows j = (j ≤ length constants)
 abbrev μ-loop : tie.MeasureT-loop
 μ-loop value constants rows₀ low high j₀ rows j = length constants - j
 
-first-rows-requires : tie.Need-first-rows-requires Inv-loop μ-loop
-first-rows-requires c κs = search needs
-
 multiply-requires : tie.Need-multiply-requires Inv-loop μ-loop
 multiply-requires c κs = c .before .first-rows .ensures .long
-
-sixteenth-rows-requires : tie.Need-sixteenth-rows-requires Inv-loop μ-loop
-sixteenth-rows-requires c κs = search needs
 
 multiply-requires-2 : tie.Need-multiply-requires-2 Inv-loop μ-loop
 multiply-requires-2 c κs = c .before .sixteenth-rows .ensures .long
@@ -30,40 +24,33 @@ multiply-requires-2 c κs = c .before .sixteenth-rows .ensures .long
 loop-holds : tie.Need-loop-holds Inv-loop μ-loop
 loop-holds c = (omega arith, products-none _ _ _)
 
-shared-slice-read-c : tie.Need-shared-slice-read-c Inv-loop μ-loop
-shared-slice-read-c c = omega arith
-
 cast-c : tie.Need-cast-c Inv-loop μ-loop
 cast-c c = omega (arith, c .shared-slice-known3 .given (c .before .before .loop .j))
 
-mul-add-multiple : tie.Need-mul-add-multiple Inv-loop μ-loop
-mul-add-multiple c = omega arith
+-- where the row of a low multiple was added, and where its constant was read
+abbrev low-added : tie.After-high2 Inv-loop μ-loop → tie.After-add-multiple Inv-loop μ-loop
+low-added c = c .before .before .before .before
 
-add-multiple-requires : tie.Need-add-multiple-requires Inv-loop μ-loop
-add-multiple-requires c κs = search needs
-
-mul-add-multiple-2 : tie.Need-mul-add-multiple-2 Inv-loop μ-loop
-mul-add-multiple-2 c = omega arith
+abbrev constant-read : tie.After-add-multiple Inv-loop μ-loop → tie.After-shared-slice-known3 Inv-loop μ-loop
+constant-read c = c .before .before .before
 
 add-multiple-requires-2 : tie.Need-add-multiple-requires-2 Inv-loop μ-loop
 add-multiple-requires-2 c κs =
-    omega (arith, c .before .before .before .before .before .before .before .shared-slice-known3 .given (c .before .before .before .before .before .before .before .before .before .loop .j), c .before .before .before .before .add-multiple .ensures .long)
-
-add-j : tie.Need-add-j Inv-loop μ-loop
-add-j c = omega arith
-
-loop-less : tie.Need-loop-less Inv-loop μ-loop
-loop-less c = omega arith
+    omega (arith, constant-read (low-added c) .shared-slice-known3 .given (constant-read (low-added c) .before .before .loop .j), low-added c .add-multiple .ensures .long)
 
 loop-again : tie.Need-loop-again Inv-loop μ-loop
 loop-again c =
-    let l = c .before .before .before .before .before .before .before .before .before .before .before .before in
-    let byte = c .before .before .before .before .before .before .before .before .before .before .before .before .before .before .before .before .before .before .before .before .before .before .shared-slice-known .given in (
+    let low = low-added (c .before .before .before) in
+    let read = constant-read low in
+    let l = read .before .before in
+    let sixteenths = l .before .before .before in
+    let firsts = sixteenths .before .before .before .before in
+    let byte = firsts .before .before .before .shared-slice-known .given in (
       omega arith,
-      products-more _ _ _ _ _ _ _ _ _ (λ p. byte p .fits) (c .before .before .before .before .before .before .before .before .before .before .shared-slice-known3 .given (l .loop .j) .fits)
-          (c .before .before .before .before .before .before .before .before .before .before .before .before .before .before .before .before .before .multiply .ensures .1 _ (λ p. byte p .fits) (c .before .before .before .before .before .before .before .before .before .before .before .before .before .before .before .before .before .before .before .first-rows .ensures))
-          (l .before .multiply2 .ensures .1 _ (λ p. doubled-byte _) (c .before .before .before .before .before .before .before .before .before .before .before .before .before .before .before .sixteenth-rows .ensures))
-          (l .loop .inv .1) (c .before .before .before .before .before .before .before .add-multiple .ensures) (c .before .before .add-multiple2 .ensures),
+      products-more _ _ _ _ _ _ _ _ _ (λ p. byte p .fits) (read .shared-slice-known3 .given (l .loop .j) .fits)
+          (sixteenths .before .before .multiply .ensures .1 _ (λ p. byte p .fits) (firsts .first-rows .ensures))
+          (l .before .multiply2 .ensures .1 _ (λ p. doubled-byte _) (sixteenths .sixteenth-rows .ensures))
+          (l .loop .inv .1) (low .add-multiple .ensures) (c .before .before .add-multiple2 .ensures),
     )
 
 same-length : tie.Need-same-length Inv-loop μ-loop
@@ -78,19 +65,19 @@ add-by-tables-spec =
     (tie.spec
     Inv-loop
     μ-loop
-    first-rows-requires
+    (λ c κs. search needs)
     multiply-requires
-    sixteenth-rows-requires
+    (λ c κs. search needs)
     multiply-requires-2
     loop-holds
-    shared-slice-read-c
+    (λ c. omega arith)
     cast-c
-    mul-add-multiple
-    add-multiple-requires
-    mul-add-multiple-2
+    (λ c. omega arith)
+    (λ c κs. search needs)
+    (λ c. omega arith)
     add-multiple-requires-2
-    add-j
-    loop-less
+    (λ c. omega arith)
+    (λ c. omega arith)
     loop-again
     same-length
     returns)

@@ -21,45 +21,6 @@ abbrev μ-loop : tie.MeasureT-loop
 loop-holds : tie.Need-loop-holds Inv-loop μ-loop
 loop-holds c = (omega arith, written-none _ _ _)
 
-mul-sum : tie.Need-mul-sum Inv-loop μ-loop
-mul-sum c = omega arith
-
-add-sum : tie.Need-add-sum Inv-loop μ-loop
-add-sum c = omega arith
-
-element-copy-out-sum : tie.Need-element-copy-out-sum Inv-loop μ-loop
-element-copy-out-sum c = omega arith
-
-mul-sum-2 : tie.Need-mul-sum-2 Inv-loop μ-loop
-mul-sum-2 c = omega arith
-
-add-sum-2 : tie.Need-add-sum-2 Inv-loop μ-loop
-add-sum-2 c = omega arith
-
-element-copy-out-sum-2 : tie.Need-element-copy-out-sum-2 Inv-loop μ-loop
-element-copy-out-sum-2 c = omega arith
-
-sum-requires : tie.Need-sum-requires Inv-loop μ-loop
-sum-requires c κs = search needs
-
-add-rows : tie.Need-add-rows Inv-loop μ-loop
-add-rows c = omega arith
-
-mul-rows : tie.Need-mul-rows Inv-loop μ-loop
-mul-rows c = omega arith
-
-add-rows-2 : tie.Need-add-rows-2 Inv-loop μ-loop
-add-rows-2 c = omega arith
-
-element-write-rows : tie.Need-element-write-rows Inv-loop μ-loop
-element-write-rows c = omega arith
-
-add-p : tie.Need-add-p Inv-loop μ-loop
-add-p c = omega arith
-
-loop-less : tie.Need-loop-less Inv-loop μ-loop
-loop-less c = omega arith
-
 loop-again : tie.Need-loop-again Inv-loop μ-loop
 loop-again c =
     let d = c .before .before .before .before in
@@ -76,18 +37,18 @@ add-row-spec =
     Inv-loop
     μ-loop
     loop-holds
-    mul-sum
-    add-sum
-    element-copy-out-sum
-    mul-sum-2
-    add-sum-2
-    element-copy-out-sum-2
-    sum-requires
-    add-rows
-    mul-rows
-    add-rows-2
-    element-write-rows
-    add-p
-    loop-less
+    (λ c. omega arith)
+    (λ c. omega arith)
+    (λ c. omega arith)
+    (λ c. omega arith)
+    (λ c. omega arith)
+    (λ c. omega arith)
+    (λ c κs. search needs)
+    (λ c. omega arith)
+    (λ c. omega arith)
+    (λ c. omega arith)
+    (λ c. omega arith)
+    (λ c. omega arith)
+    (λ c. omega arith)
     loop-again
     returns)

@@ -10,16 +10,11 @@ use Rattle.code.proofs.lanes.add_where.Tie as tie
 returns : tie.Need-returns
 returns c = added-not _ _ _ _ (c .if1 .taken) (λ i. c .before .slice-known .given i .fits)
 
-add-multiple-requires : tie.Need-add-multiple-requires
-add-multiple-requires c κs = search needs
-
-same-length : tie.Need-same-length
-same-length c = search needs
-
 returns-2 : tie.Need-returns-2
 returns-2 c =
-    let a = c .before .before .before .before .before .before .args in
-    added-once (a .at) (a .bit) (λ p. getD (a .doublings .now) (in-row (a .k) p) 0) _ _ (omega arith) (c .before .before .add-multiple .ensures)
+    let added = c .before .before in
+    let a = added .before .before .before .before .args in
+    added-once (a .at) (a .bit) (λ p. getD (a .doublings .now) (in-row (a .k) p) 0) _ _ (omega arith) (added .add-multiple .ensures)
 
 pub add-where-spec : {M : Type 1} → statement M
-add-where-spec = tie.close (tie.spec returns add-multiple-requires same-length returns-2)
+add-where-spec = tie.close (tie.spec returns (λ c κs. search needs) (λ c. search needs) returns-2)

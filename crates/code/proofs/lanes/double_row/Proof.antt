@@ -21,33 +21,6 @@ abbrev μ-loop : tie.MeasureT-loop
 loop-holds : tie.Need-loop-holds Inv-loop μ-loop
 loop-holds c = (omega arith, written-none _ _ _)
 
-mul-double : tie.Need-mul-double Inv-loop μ-loop
-mul-double c = omega arith
-
-add-double : tie.Need-add-double Inv-loop μ-loop
-add-double c = omega arith
-
-element-copy-out-double : tie.Need-element-copy-out-double Inv-loop μ-loop
-element-copy-out-double c = omega arith
-
-double-requires : tie.Need-double-requires Inv-loop μ-loop
-double-requires c κs = search needs
-
-mul-rows : tie.Need-mul-rows Inv-loop μ-loop
-mul-rows c = omega arith
-
-add-rows : tie.Need-add-rows Inv-loop μ-loop
-add-rows c = omega arith
-
-element-write-rows : tie.Need-element-write-rows Inv-loop μ-loop
-element-write-rows c = omega arith
-
-add-p : tie.Need-add-p Inv-loop μ-loop
-add-p c = omega arith
-
-loop-less : tie.Need-loop-less Inv-loop μ-loop
-loop-less c = omega arith
-
 loop-again : tie.Need-loop-again Inv-loop μ-loop
 loop-again c =
     let w = c .before .before .before .loop .inv .1 in
@@ -63,14 +36,14 @@ double-row-spec =
     Inv-loop
     μ-loop
     loop-holds
-    mul-double
-    add-double
-    element-copy-out-double
-    double-requires
-    mul-rows
-    add-rows
-    element-write-rows
-    add-p
-    loop-less
+    (λ c. omega arith)
+    (λ c. omega arith)
+    (λ c. omega arith)
+    (λ c κs. search needs)
+    (λ c. omega arith)
+    (λ c. omega arith)
+    (λ c. omega arith)
+    (λ c. omega arith)
+    (λ c. omega arith)
     loop-again
     returns)

@@ -15,23 +15,11 @@ Inv-loop value rows₀ k₀ rows k = (1 ≤ k) × (k ≤ 8) × Doublings k (λ p
 abbrev μ-loop : tie.MeasureT-loop
 μ-loop value rows₀ k₀ rows k = 8 - k
 
-first-rows-requires : tie.Need-first-rows-requires Inv-loop μ-loop
-first-rows-requires c κs = search needs
-
 loop-holds : tie.Need-loop-holds Inv-loop μ-loop
 loop-holds c = (omega arith, omega arith, doublings-one _ _ (λ p. c .before .shared-slice-known .given p .fits) (c .first-rows .ensures))
 
-add-double-row : tie.Need-add-double-row Inv-loop μ-loop
-add-double-row c = omega arith
-
 double-row-requires : tie.Need-double-row-requires Inv-loop μ-loop
 double-row-requires c κs = (omega arith, omega arith, c .before .before .loop .inv .2 .long)
-
-add-k : tie.Need-add-k Inv-loop μ-loop
-add-k c = omega arith
-
-loop-less : tie.Need-loop-less Inv-loop μ-loop
-loop-less c = omega arith
 
 loop-again : tie.Need-loop-again Inv-loop μ-loop
 loop-again c =
@@ -46,11 +34,11 @@ doublings-spec =
     (tie.spec
     Inv-loop
     μ-loop
-    first-rows-requires
+    (λ c κs. search needs)
     loop-holds
-    add-double-row
+    (λ c. omega arith)
     double-row-requires
-    add-k
-    loop-less
+    (λ c. omega arith)
+    (λ c. omega arith)
     loop-again
     returns)

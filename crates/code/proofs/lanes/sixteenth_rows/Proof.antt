@@ -20,27 +20,6 @@ abbrev μ-loop : tie.MeasureT-loop
 loop-holds : tie.Need-loop-holds Inv-loop μ-loop
 loop-holds c = (omega arith, first-none _ _ refl refl)
 
-add-double : tie.Need-add-double Inv-loop μ-loop
-add-double c = omega arith
-
-element-copy-out-double : tie.Need-element-copy-out-double Inv-loop μ-loop
-element-copy-out-double c = omega arith
-
-double-requires : tie.Need-double-requires Inv-loop μ-loop
-double-requires c κs = search needs
-
-add-rows : tie.Need-add-rows Inv-loop μ-loop
-add-rows c = omega arith
-
-array-write-rows : tie.Need-array-write-rows Inv-loop μ-loop
-array-write-rows c = omega arith
-
-add-p : tie.Need-add-p Inv-loop μ-loop
-add-p c = omega arith
-
-loop-less : tie.Need-loop-less Inv-loop μ-loop
-loop-less c = omega arith
-
 loop-again : tie.Need-loop-again Inv-loop μ-loop
 loop-again c = (omega arith, first-more _ _ _ _ (omega arith) (c .double .ensures) (doubled-byte _) (c .before .before .before .loop .inv .1))
 
@@ -54,12 +33,12 @@ sixteenth-rows-spec =
     Inv-loop
     μ-loop
     loop-holds
-    add-double
-    element-copy-out-double
-    double-requires
-    add-rows
-    array-write-rows
-    add-p
-    loop-less
+    (λ c. omega arith)
+    (λ c. omega arith)
+    (λ c κs. search needs)
+    (λ c. omega arith)
+    (λ c. omega arith)
+    (λ c. omega arith)
+    (λ c. omega arith)
     loop-again
     returns)

@@ -6,32 +6,16 @@ use Rattle.code.proofs.Products.Multiples.{multiples-double, multiples-
 use Rattle.code.proofs.lanes.to_eight.Statement.{statement}
 use Rattle.code.proofs.lanes.to_eight.Tie as tie
 
-double-row-requires : tie.Need-double-row-requires
-double-row-requires c κs = omega arith
-
-add-row-requires : tie.Need-add-row-requires
-add-row-requires c κs = omega arith
-
-double-row-requires-2 : tie.Need-double-row-requires-2
-double-row-requires-2 c κs = omega arith
-
-add-row-requires-2 : tie.Need-add-row-requires-2
-add-row-requires-2 c κs = omega arith
-
-add-row-requires-3 : tie.Need-add-row-requires-3
-add-row-requires-3 c κs = omega arith
-
-add-row-requires-4 : tie.Need-add-row-requires-4
-add-row-requires-4 c κs = omega arith
-
 returns : tie.Need-returns
 returns c = (
   omega arith,
   λ f byte m.
-      let three = multiples-double 1 f _ _ (omega arith) (omega arith) byte m (c .before .before .before .before .before .before .before .before .before .before .double-row .ensures) in
-      let four = multiples-join 2 1 f _ _ (omega arith) (plus-below 1 1 (inl refl) (omega arith)) byte three (omega arith) (c .before .before .before .before .before .before .before .before .add-row .ensures) in
-      let five = multiples-double 2 f _ _ (omega arith) (omega arith) byte four (c .before .before .before .before .before .before .double-row2 .ensures) in
-      let six = multiples-join 4 1 f _ _ (omega arith) (plus-below 2 1 (inr (inl refl)) (omega arith)) byte five (omega arith) (c .before .before .before .before .add-row2 .ensures) in
+      let second = c .before .before .before .before in
+      let first = second .before .before .before .before in
+      let three = multiples-double 1 f _ _ (omega arith) (omega arith) byte m (first .before .before .double-row .ensures) in
+      let four = multiples-join 2 1 f _ _ (omega arith) (plus-below 1 1 (inl refl) (omega arith)) byte three (omega arith) (first .add-row .ensures) in
+      let five = multiples-double 2 f _ _ (omega arith) (omega arith) byte four (second .before .before .double-row2 .ensures) in
+      let six = multiples-join 4 1 f _ _ (omega arith) (plus-below 2 1 (inr (inl refl)) (omega arith)) byte five (omega arith) (second .add-row2 .ensures) in
       let seven = multiples-join 4 2 f _ _ (omega arith) (plus-below 2 2 (inr (inl refl)) (omega arith)) byte six (omega arith) (c .before .before .add-row3 .ensures) in
       multiples-join 4 3 f _ _ (omega arith) (plus-below 2 3 (inr (inl refl)) (omega arith)) byte seven (omega arith) (c .add-row4 .ensures),
 )
@@ -40,10 +24,10 @@ pub to-eight-spec : {M : Type 1} → statement M
 to-eight-spec =
     tie.close
     (tie.spec
-    double-row-requires
-    add-row-requires
-    double-row-requires-2
-    add-row-requires-2
-    add-row-requires-3
-    add-row-requires-4
+    (λ c κs. omega arith)
+    (λ c κs. omega arith)
+    (λ c κs. omega arith)
+    (λ c κs. omega arith)
+    (λ c κs. omega arith)
+    (λ c κs. omega arith)
     returns)

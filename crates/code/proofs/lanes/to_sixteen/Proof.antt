@@ -6,40 +6,19 @@ use Rattle.code.proofs.Products.Multiples.{multiples-double, multiples-
 use Rattle.code.proofs.lanes.to_sixteen.Statement.{statement}
 use Rattle.code.proofs.lanes.to_sixteen.Tie as tie
 
-double-row-requires : tie.Need-double-row-requires
-double-row-requires c κs = omega arith
-
-add-row-requires : tie.Need-add-row-requires
-add-row-requires c κs = omega arith
-
-add-row-requires-2 : tie.Need-add-row-requires-2
-add-row-requires-2 c κs = omega arith
-
-add-row-requires-3 : tie.Need-add-row-requires-3
-add-row-requires-3 c κs = omega arith
-
-add-row-requires-4 : tie.Need-add-row-requires-4
-add-row-requires-4 c κs = omega arith
-
-add-row-requires-5 : tie.Need-add-row-requires-5
-add-row-requires-5 c κs = omega arith
-
-add-row-requires-6 : tie.Need-add-row-requires-6
-add-row-requires-6 c κs = omega arith
-
-add-row-requires-7 : tie.Need-add-row-requires-7
-add-row-requires-7 c κs = omega arith
-
 returns : tie.Need-returns
 returns c = (
   omega arith,
   λ f byte m.
-      let nine = multiples-double 4 f _ _ (omega arith) (omega arith) byte m (c .before .before .before .before .before .before .before .before .before .before .before .before .before .before .double-row .ensures) in
-      let ten = multiples-join 8 1 f _ _ (omega arith) (plus-below 4 1 (inr (inr refl)) (omega arith)) byte nine (omega arith) (c .before .before .before .before .before .before .before .before .before .before .before .before .add-row .ensures) in
-      let eleven = multiples-join 8 2 f _ _ (omega arith) (plus-below 4 2 (inr (inr refl)) (omega arith)) byte ten (omega arith) (c .before .before .before .before .before .before .before .before .before .before .add-row2 .ensures) in
-      let twelve = multiples-join 8 3 f _ _ (omega arith) (plus-below 4 3 (inr (inr refl)) (omega arith)) byte eleven (omega arith) (c .before .before .before .before .before .before .before .before .add-row3 .ensures) in
-      let thirteen = multiples-join 8 4 f _ _ (omega arith) (plus-below 4 4 (inr (inr refl)) (omega arith)) byte twelve (omega arith) (c .before .before .before .before .before .before .add-row4 .ensures) in
-      let fourteen = multiples-join 8 5 f _ _ (omega arith) (plus-below 4 5 (inr (inr refl)) (omega arith)) byte thirteen (omega arith) (c .before .before .before .before .add-row5 .ensures) in
+      let fifth = c .before .before .before .before in
+      let third = fifth .before .before .before .before in
+      let first = third .before .before .before .before in
+      let nine = multiples-double 4 f _ _ (omega arith) (omega arith) byte m (first .before .before .double-row .ensures) in
+      let ten = multiples-join 8 1 f _ _ (omega arith) (plus-below 4 1 (inr (inr refl)) (omega arith)) byte nine (omega arith) (first .add-row .ensures) in
+      let eleven = multiples-join 8 2 f _ _ (omega arith) (plus-below 4 2 (inr (inr refl)) (omega arith)) byte ten (omega arith) (third .before .before .add-row2 .ensures) in
+      let twelve = multiples-join 8 3 f _ _ (omega arith) (plus-below 4 3 (inr (inr refl)) (omega arith)) byte eleven (omega arith) (third .add-row3 .ensures) in
+      let thirteen = multiples-join 8 4 f _ _ (omega arith) (plus-below 4 4 (inr (inr refl)) (omega arith)) byte twelve (omega arith) (fifth .before .before .add-row4 .ensures) in
+      let fourteen = multiples-join 8 5 f _ _ (omega arith) (plus-below 4 5 (inr (inr refl)) (omega arith)) byte thirteen (omega arith) (fifth .add-row5 .ensures) in
       let fifteen = multiples-join 8 6 f _ _ (omega arith) (plus-below 4 6 (inr (inr refl)) (omega arith)) byte fourteen (omega arith) (c .before .before .add-row6 .ensures) in
       multiples-join 8 7 f _ _ (omega arith) (plus-below 4 7 (inr (inr refl)) (omega arith)) byte fifteen (omega arith) (c .add-row7 .ensures),
 )
@@ -48,12 +27,12 @@ pub to-sixteen-spec : {M : Type 1} → statement M
 to-sixteen-spec =
     tie.close
     (tie.spec
-    double-row-requires
-    add-row-requires
-    add-row-requires-2
-    add-row-requires-3
-    add-row-requires-4
-    add-row-requires-5
-    add-row-requires-6
-    add-row-requires-7
+    (λ c κs. omega arith)
+    (λ c κs. omega arith)
+    (λ c κs. omega arith)
+    (λ c κs. omega arith)
+    (λ c κs. omega arith)
+    (λ c κs. omega arith)
+    (λ c κs. omega arith)
+    (λ c κs. omega arith)
     returns)

@@ -17,18 +17,6 @@ abbrev μ-loop : tie.MeasureT-loop
 loop-holds : tie.Need-loop-holds Inv-loop μ-loop
 loop-holds c = (omega arith, loaded-none _ _ _ _ refl refl)
 
-sub-from : tie.Need-sub-from Inv-loop μ-loop
-sub-from c = omega arith
-
-sub-from-2 : tie.Need-sub-from-2 Inv-loop μ-loop
-sub-from-2 c = omega arith
-
-slice-aggregate-copy-value : tie.Need-slice-aggregate-copy-value Inv-loop μ-loop
-slice-aggregate-copy-value c = omega arith
-
-mul-copy-value : tie.Need-mul-copy-value Inv-loop μ-loop
-mul-copy-value c = omega arith
-
 mul-copy-value-2 : tie.Need-mul-copy-value-2 Inv-loop μ-loop
 mul-copy-value-2 c = let a = c .before .before .before .before .args in start-fits _ (a .n) (a .size) (omega arith) (omega arith)
 
@@ -36,12 +24,6 @@ copy-value-requires : tie.Need-copy-value-requires Inv-loop μ-loop
 copy-value-requires c κs =
     let a = c .before .before .before .before in
     (omega (arith, c .before .before .loop .inv .1 .long), value-ends _ (a .args .n) (a .args .size) _ (omega arith) (a .pre .2))
-
-add-i : tie.Need-add-i Inv-loop μ-loop
-add-i c = omega arith
-
-loop-less : tie.Need-loop-less Inv-loop μ-loop
-loop-less c = omega arith
 
 loop-again : tie.Need-loop-again Inv-loop μ-loop
 loop-again c =
@@ -58,13 +40,13 @@ load-spec =
     Inv-loop
     μ-loop
     loop-holds
-    sub-from
-    sub-from-2
-    slice-aggregate-copy-value
-    mul-copy-value
+    (λ c. omega arith)
+    (λ c. omega arith)
+    (λ c. omega arith)
+    (λ c. omega arith)
     mul-copy-value-2
     copy-value-requires
-    add-i
-    loop-less
+    (λ c. omega arith)
+    (λ c. omega arith)
     loop-again
     returns)

@@ -22,28 +22,10 @@ mul-copy-value c =
     let a = c .before .before .before .before .before .args in
     omega (arith, value-fits (c .before .before .loop .c) (a .count) (a .size) (omega arith))
 
-add-copy-value : tie.Need-add-copy-value Inv-loop μ-loop
-add-copy-value c = omega arith
-
-sub-copy-value : tie.Need-sub-copy-value Inv-loop μ-loop
-sub-copy-value c = omega arith
-
-sub-copy-value-2 : tie.Need-sub-copy-value-2 Inv-loop μ-loop
-sub-copy-value-2 c = omega arith
-
-mul-copy-value-2 : tie.Need-mul-copy-value-2 Inv-loop μ-loop
-mul-copy-value-2 c = omega arith
-
 copy-value-requires : tie.Need-copy-value-requires Inv-loop μ-loop
 copy-value-requires c κs =
     let a = c .before .before .before .before .before .args in
     omega (arith, value-fits (c .before .before .loop .c) (a .count) (a .size) (omega arith), c .before .before .loop .inv .1 .long)
-
-add-c : tie.Need-add-c Inv-loop μ-loop
-add-c c = omega arith
-
-loop-less : tie.Need-loop-less Inv-loop μ-loop
-loop-less c = omega arith
 
 loop-again : tie.Need-loop-again Inv-loop μ-loop
 loop-again c =
@@ -64,13 +46,13 @@ store-spec =
     μ-loop
     loop-holds
     mul-copy-value
-    add-copy-value
-    sub-copy-value
-    sub-copy-value-2
-    mul-copy-value-2
+    (λ c. omega arith)
+    (λ c. omega arith)
+    (λ c. omega arith)
+    (λ c. omega arith)
     copy-value-requires
-    add-c
-    loop-less
+    (λ c. omega arith)
+    (λ c. omega arith)
     loop-again
     same-length
     returns)

@@ -21,93 +21,23 @@ abbrev generator-below : ℕ → In 4 generator-kinds.ps
 generator-below t =
     and 4 generator-kinds.ps (falls 4 generator-kinds.ps _<_ μ-generator t) generator.Pre
 
-generator-element-write-coefficients : (t : ℕ) → generator-lts.Need-element-write-coefficients (
-  generator-below t,
-  generator.Post,
-  times-factor-reads.Asked,
-  times-factor-reads.Learnt,
-) (generator-at t) generator.Post
-generator-element-write-coefficients t c = omega arith
-
-generator-returns : (t : ℕ) → generator-lts.Need-returns (
-  generator-below t,
-  generator.Post,
-  times-factor-reads.Asked,
-  times-factor-reads.Learnt,
-) (generator-at t) generator.Post
-generator-returns t c = generator-none _ _ (c .if1 .taken) (c .before .pre .1 .4)
-
-generator-sub-generator : (t : ℕ) → generator-lts.Need-sub-generator (
-  generator-below t,
-  generator.Post,
-  times-factor-reads.Asked,
-  times-factor-reads.Learnt,
-) (generator-at t) generator.Post
-generator-sub-generator t c = omega arith
-
-generator-generator-requires : (t : ℕ) → generator-lts.Need-generator-requires (
-  generator-below t,
-  generator.Post,
-  times-factor-reads.Asked,
-  times-factor-reads.Learnt,
-) (generator-at t) generator.Post
-generator-generator-requires t c κs =
-    let p = c .before .before .pre in (omega arith, (p .1 .0, p .1 .1, p .1 .2, omega arith, p .1 .4))
-
-generator-sub-times-factor : (t : ℕ) → generator-lts.Need-sub-times-factor (
-  generator-below t,
-  generator.Post,
-  times-factor-reads.Asked,
-  times-factor-reads.Learnt,
-) (generator-at t) generator.Post
-generator-sub-times-factor t c = omega arith
-
-generator-element-copy-out-times-factor :
-    (t : ℕ) → generator-lts.Need-element-copy-out-times-factor (
-      generator-below t,
-      generator.Post,
-      times-factor-reads.Asked,
-      times-factor-reads.Learnt,
-    ) (generator-at t) generator.Post
-generator-element-copy-out-times-factor t c = omega arith
-
-generator-times-factor-requires : (t : ℕ) → generator-lts.Need-times-factor-requires (
-  generator-below t,
-  generator.Post,
-  times-factor-reads.Asked,
-  times-factor-reads.Learnt,
-) (generator-at t) generator.Post
-generator-times-factor-requires t c κs =
-    let s = c .before .before .before .before .before in
-    let p = s .pre .1 in
-    let f = c .before .before .generator .ensures in
-    (p .0, p .1, p .3, f .long, λ i h. fewer-above (s .args .many - 1) _ (omega arith) f i (omega arith))
-
-generator-returns-2 : (t : ℕ) → generator-lts.Need-returns-2 (
-  generator-below t,
-  generator.Post,
-  times-factor-reads.Asked,
-  times-factor-reads.Learnt,
-) (generator-at t) generator.Post
-generator-returns-2 t c =
-    let s = c .before .before .before .before .before .before in
-    generator-more (s .args .many - 1) _ _ _ _ (omega arith) (s .pre .1 .3) (s .pre .1 .2 .entry (s .args .many - 1) (omega arith))
-    (c .before .before .before .generator .ensures) (c .times-factor .ensures)
-
+-- no root makes the generator 1; else the one for one root fewer is multiplied by one more factor
 pub +generator-spec : {M : Type 1} → statement M
-+generator-spec = close μ-generator λ t. generator-lts.spec (
-  generator-below t,
-  generator.Post,
-  times-factor-reads.Asked,
-  times-factor-reads.Learnt,
-)
++generator-spec = close μ-generator λ t. generator-lts.spec (generator-below t, generator.Post, times-factor-reads.Asked, times-factor-reads.Learnt)
     (generator-at t)
     generator.Post
-    (generator-element-write-coefficients t)
-    (generator-returns t)
-    (generator-sub-generator t)
-    (generator-generator-requires t)
-    (generator-sub-times-factor t)
-    (generator-element-copy-out-times-factor t)
-    (generator-times-factor-requires t)
-    (generator-returns-2 t)
+    (λ c. omega arith)
+    (λ c. generator-none _ _ (c .if1 .taken) (c .before .pre .1 .4))
+    (λ c. omega arith)
+    (λ c κs. let p = c .before .before .pre .1 in (omega arith, (p .0, p .1, p .2, omega arith, p .4)))
+    (λ c. omega arith)
+    (λ c. omega arith)
+    (λ c κs.
+    let s = c .before .before .before .before .before in
+    let f = c .before .before .generator .ensures in
+    (s .pre .1 .0, s .pre .1 .1, s .pre .1 .3, f .long, λ i h. fewer-above (s .args .many - 1) _ (omega arith) f i (omega arith)))
+    (λ c.
+    let made = c .before .before .before in
+    let s = made .before .before .before in
+    generator-more (s .args .many - 1) _ _ _ _ (omega arith) (s .pre .1 .3) (s .pre .1 .2 .entry (s .args .many - 1) (omega arith))
+    (made .generator .ensures) (c .times-factor .ensures))

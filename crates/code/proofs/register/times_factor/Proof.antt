@@ -18,43 +18,10 @@ abbrev μ-loop : tie.MeasureT-loop
 loop-holds : tie.Need-loop-holds Inv-loop μ-loop
 loop-holds c = (omega arith, factored-none _ _ _ (c .fits .c .fits) (c .pre .3) (c .pre .4))
 
-sub-below : tie.Need-sub-below Inv-loop μ-loop
-sub-below c = omega arith
-
-element-copy-out-below : tie.Need-element-copy-out-below Inv-loop μ-loop
-element-copy-out-below c = omega arith
-
-element-copy-out-here : tie.Need-element-copy-out-here Inv-loop μ-loop
-element-copy-out-here c = omega arith
-
-product-by-requires : tie.Need-product-by-requires Inv-loop μ-loop
-product-by-requires c κs = search needs
-
-sum-requires : tie.Need-sum-requires Inv-loop μ-loop
-sum-requires c κs = search needs
-
-element-write-polynomial : tie.Need-element-write-polynomial Inv-loop μ-loop
-element-write-polynomial c = omega arith
-
-sub-i : tie.Need-sub-i Inv-loop μ-loop
-sub-i c = omega arith
-
-loop-less : tie.Need-loop-less Inv-loop μ-loop
-loop-less c = omega arith
-
 loop-again : tie.Need-loop-again Inv-loop μ-loop
 loop-again c =
     let w = c .before .before .before .before .before .loop .inv .1 in
     (omega arith, factored-more _ _ _ _ _ w (omega arith) (omega arith) (c .sum .ensures ∙ ap (plus _) (c .before .product-by .ensures)))
-
-element-copy-out-product-by : tie.Need-element-copy-out-product-by Inv-loop μ-loop
-element-copy-out-product-by c = omega arith
-
-product-by-requires-2 : tie.Need-product-by-requires-2 Inv-loop μ-loop
-product-by-requires-2 c κs = search needs
-
-element-write-polynomial-2 : tie.Need-element-write-polynomial-2 Inv-loop μ-loop
-element-write-polynomial-2 c = omega arith
 
 returns : tie.Need-returns Inv-loop μ-loop
 returns c = factored-whole _ _ _ _ _ (c .before .before .before .loop .inv .1) (omega arith) (c .product-by2 .ensures)
@@ -66,16 +33,16 @@ times-factor-spec =
     Inv-loop
     μ-loop
     loop-holds
-    sub-below
-    element-copy-out-below
-    element-copy-out-here
-    product-by-requires
-    sum-requires
-    element-write-polynomial
-    sub-i
-    loop-less
+    (λ c. omega arith)
+    (λ c. omega arith)
+    (λ c. omega arith)
+    (λ c κs. search needs)
+    (λ c κs. search needs)
+    (λ c. omega arith)
+    (λ c. omega arith)
+    (λ c. omega arith)
     loop-again
-    element-copy-out-product-by
-    product-by-requires-2
-    element-write-polynomial-2
+    (λ c. omega arith)
+    (λ c κs. search needs)
+    (λ c. omega arith)
     returns)

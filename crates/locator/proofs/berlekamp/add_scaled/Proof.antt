@@ -6,6 +6,7 @@ use native.Mathlib.Omega.{arith}
 use native.Mathlib.Numerals.{add-one}
 use lib.ListN.{length, getD, take, set, length-set}
 use lib.Seq.{take-length}
+use borrow.Author.Needs.{needs}
 use Rattle.field.specs.Field.{plus}
 use Rattle.code.specs.Polynomial.{added, scaled}
 use Rattle.locator.proofs.Polynomials.Coefficients.{added-first, added-turn}
@@ -20,28 +21,7 @@ abbrev μ-loop : tie.MeasureT-loop
 μ-loop powers logarithms polynomial₀ factor other i₀ polynomial i = length other - i
 
 loop-holds : tie.Need-loop-holds Inv-loop μ-loop
-loop-holds c = (omega arith, refl, added-first (c .before .before .args .factor) (c .before .before .args .polynomial .now) (c .before .before .args .other .now))
-
-slice-read-sum : tie.Need-slice-read-sum Inv-loop μ-loop
-slice-read-sum c = omega arith
-
-shared-slice-read-product-by : tie.Need-shared-slice-read-product-by Inv-loop μ-loop
-shared-slice-read-product-by c = omega arith
-
-product-by-requires : tie.Need-product-by-requires Inv-loop μ-loop
-product-by-requires c κs = c .before .before .before .before .before .before .pre .0
-
-sum-requires : tie.Need-sum-requires Inv-loop μ-loop
-sum-requires c κs = tt
-
-slice-write-polynomial : tie.Need-slice-write-polynomial Inv-loop μ-loop
-slice-write-polynomial c = omega arith
-
-add-i : tie.Need-add-i Inv-loop μ-loop
-add-i c = omega arith
-
-loop-less : tie.Need-loop-less Inv-loop μ-loop
-loop-less c = omega arith
+loop-holds c = let y = c .before .before .args in (omega arith, refl, added-first (y .factor) (y .polynomial .now) (y .other .now))
 
 loop-again : tie.Need-loop-again Inv-loop μ-loop
 loop-again c =
@@ -73,13 +53,13 @@ add-scaled-spec =
     Inv-loop
     μ-loop
     loop-holds
-    slice-read-sum
-    shared-slice-read-product-by
-    product-by-requires
-    sum-requires
-    slice-write-polynomial
-    add-i
-    loop-less
+    (λ c. omega arith)
+    (λ c. omega arith)
+    (λ c κs. search needs)
+    (λ c κs. tt)
+    (λ c. omega arith)
+    (λ c. omega arith)
+    (λ c. omega arith)
     loop-again
     same-length
     returns)

@@ -17,35 +17,14 @@ Inv-loop powers logarithms locator size sums j sum₀ m₀ sum m =
 abbrev μ-loop : tie.MeasureT-loop
 μ-loop powers logarithms locator size sums j sum₀ m₀ sum m = m
 
-add-m : tie.Need-add-m Inv-loop μ-loop
-add-m c = omega arith
-
 loop-holds : tie.Need-loop-holds Inv-loop μ-loop
 loop-holds c =
     let y = c .before .args in
     let p = take (y .size + 1) (y .locator .now) in
     (omega arith, rw (length-take-le (y .size + 1) (y .locator .now) (omega arith)) at (against-end p (entries (y .sums .now)) (y .j)))
 
-sub-m : tie.Need-sub-m Inv-loop μ-loop
-sub-m c = omega arith
-
-element-copy-out-product-by : tie.Need-element-copy-out-product-by Inv-loop μ-loop
-element-copy-out-product-by c = omega arith
-
-add-product-by : tie.Need-add-product-by Inv-loop μ-loop
-add-product-by c = omega arith
-
-shared-slice-read-product-by : tie.Need-shared-slice-read-product-by Inv-loop μ-loop
-shared-slice-read-product-by c = omega arith
-
 product-by-requires : tie.Need-product-by-requires Inv-loop μ-loop
 product-by-requires c κs = c .before .before .before .before .before .pre .0
-
-sum-requires : tie.Need-sum-requires Inv-loop μ-loop
-sum-requires c κs = tt
-
-loop-less : tie.Need-loop-less Inv-loop μ-loop
-loop-less c = omega arith
 
 loop-again : tie.Need-loop-again Inv-loop μ-loop
 loop-again c =
@@ -74,14 +53,14 @@ discrepancy-spec =
     (tie.spec
     Inv-loop
     μ-loop
-    add-m
+    (λ c. omega arith)
     loop-holds
-    sub-m
-    element-copy-out-product-by
-    add-product-by
-    shared-slice-read-product-by
+    (λ c. omega arith)
+    (λ c. omega arith)
+    (λ c. omega arith)
+    (λ c. omega arith)
     product-by-requires
-    sum-requires
-    loop-less
+    (λ c κs. tt)
+    (λ c. omega arith)
     loop-again
     returns)

@@ -3,6 +3,7 @@
 use mathlib.Core.Path.{_∙_, ap}
 use Prim.Native.Nat.{ℕ}
 use native.Mathlib.Omega.{arith}
+use borrow.Author.Needs.{needs}
 use Rattle.field.specs.Field.{plus, times}
 use Rattle.locator.proofs.Polynomials.Horner.{entries, Divided, divided-end, divided-turn, divided-root, divided-else}
 use Rattle.locator.proofs.berlekamp.error_at.Statement.{statement}
@@ -16,52 +17,18 @@ abbrev μ-loop : tie.MeasureT-loop
 μ-loop powers logarithms locator sums x whole₀ divided₀ sum₀ m₀ whole divided sum m = m
 
 loop-holds : tie.Need-loop-holds Inv-loop μ-loop
-loop-holds c = divided-end (c .before .before .args .locator .now) (entries (c .before .before .args .sums .now)) (c .before .before .args .x)
-
-sub-m : tie.Need-sub-m Inv-loop μ-loop
-sub-m c = omega arith
-
-shared-slice-read-product-by : tie.Need-shared-slice-read-product-by Inv-loop μ-loop
-shared-slice-read-product-by c = omega arith
-
-product-by-requires : tie.Need-product-by-requires Inv-loop μ-loop
-product-by-requires c κs = c .before .before .before .before .before .pre .0
-
-sum-requires : tie.Need-sum-requires Inv-loop μ-loop
-sum-requires c κs = tt
-
-product-by-requires-2 : tie.Need-product-by-requires-2 Inv-loop μ-loop
-product-by-requires-2 c κs = c .before .before .before .before .before .before .before .pre .0
-
-sum-requires-2 : tie.Need-sum-requires-2 Inv-loop μ-loop
-sum-requires-2 c κs = tt
-
-shared-slice-read-sum : tie.Need-shared-slice-read-sum Inv-loop μ-loop
-shared-slice-read-sum c = omega arith
-
-product-by-requires-3 : tie.Need-product-by-requires-3 Inv-loop μ-loop
-product-by-requires-3 c κs = c .before .before .before .before .before .before .before .before .before .before .pre .0
-
-sum-requires-3 : tie.Need-sum-requires-3 Inv-loop μ-loop
-sum-requires-3 c κs = tt
-
-loop-less : tie.Need-loop-less Inv-loop μ-loop
-loop-less c = omega arith
+loop-holds c = let y = c .before .before .args in divided-end (y .locator .now) (entries (y .sums .now)) (y .x)
 
 loop-again : tie.Need-loop-again Inv-loop μ-loop
 loop-again c =
-    let d = c .before .before .before .before .before .before .before .before .before in
+    let whole = c .before .before .before in
+    let summed = whole .before .before in
+    let d = summed .before .before .before .before in
     let y = d .before .before .before .args in
     divided-turn (y .locator .now) (entries (y .sums .now)) (y .x) (d .loop .whole) (d .loop .divided) (d .loop .sum) (d .loop .m) (omega arith) (omega arith) (d .loop .inv)
     (c .sum3 .ensures ∙ ap (plus _) (c .before .product-by3 .ensures))
-    (c .before .before .before .sum2 .ensures ∙ ap (plus _) (c .before .before .before .before .product-by2 .ensures))
-    (c .before .before .before .before .before .sum .ensures ∙ ap (λ (z : ℕ). plus z (d .loop .sum)) (c .before .before .before .before .before .before .product-by .ensures))
-
-inverse-by-requires : tie.Need-inverse-by-requires Inv-loop μ-loop
-inverse-by-requires c κs = c .before .before .before .before .before .pre .0
-
-product-by-requires-4 : tie.Need-product-by-requires-4 Inv-loop μ-loop
-product-by-requires-4 c κs = c .before .before .before .before .before .before .pre .0
+    (whole .sum2 .ensures ∙ ap (plus _) (whole .before .product-by2 .ensures))
+    (summed .sum .ensures ∙ ap (λ (z : ℕ). plus z (d .loop .sum)) (summed .before .product-by .ensures))
 
 returns : tie.Need-returns Inv-loop μ-loop
 returns c =
@@ -83,18 +50,18 @@ error-at-spec =
     Inv-loop
     μ-loop
     loop-holds
-    sub-m
-    shared-slice-read-product-by
-    product-by-requires
-    sum-requires
-    product-by-requires-2
-    sum-requires-2
-    shared-slice-read-sum
-    product-by-requires-3
-    sum-requires-3
-    loop-less
+    (λ c. omega arith)
+    (λ c. omega arith)
+    (λ c κs. search needs)
+    (λ c κs. tt)
+    (λ c κs. search needs)
+    (λ c κs. tt)
+    (λ c. omega arith)
+    (λ c κs. search needs)
+    (λ c κs. tt)
+    (λ c. omega arith)
     loop-again
-    inverse-by-requires
-    product-by-requires-4
+    (λ c κs. search needs)
+    (λ c κs. search needs)
     returns
     returns-2)

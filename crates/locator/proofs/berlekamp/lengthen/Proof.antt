@@ -4,6 +4,7 @@ use mathlib.Core.Path.{_≡_, _∙_, ap, ap₂, subst}
 use Prim.Native.Nat.{ℕ, _+_, _-_, _*_, _≤_}
 use native.Mathlib.Omega.{arith}
 use lib.ListN.{getD}
+use borrow.Author.Needs.{needs}
 use Rattle.field.specs.Field.{plus, times}
 use Rattle.locator.specs.Locator.{raised}
 use Rattle.locator.specs.Held.{located}
@@ -24,57 +25,16 @@ abbrev μ-loop : tie.MeasureT-loop
 inverse-by-requires : tie.Need-inverse-by-requires Inv-loop μ-loop
 inverse-by-requires c κs = c .pre .0
 
-add-shift : tie.Need-add-shift Inv-loop μ-loop
-add-shift c = omega arith
-
-mul-shift : tie.Need-mul-shift Inv-loop μ-loop
-mul-shift c = omega arith
-
-sub-shift : tie.Need-sub-shift Inv-loop μ-loop
-sub-shift c = omega arith
-
-add-i : tie.Need-add-i Inv-loop μ-loop
-add-i c = omega arith
-
-sub-i : tie.Need-sub-i Inv-loop μ-loop
-sub-i c = omega arith
-
 loop-holds : tie.Need-loop-holds Inv-loop μ-loop
 loop-holds c = (omega arith, remade-none _ _ _, remade-none _ _ _)
-
-sub-i-2 : tie.Need-sub-i-2 Inv-loop μ-loop
-sub-i-2 c = omega arith
-
-element-copy-out-last : tie.Need-element-copy-out-last Inv-loop μ-loop
-element-copy-out-last c = omega arith
 
 raised-at-requires : tie.Need-raised-at-requires Inv-loop μ-loop
 raised-at-requires c κs = (omega arith, omega arith)
 
-element-copy-out-product-by : tie.Need-element-copy-out-product-by Inv-loop μ-loop
-element-copy-out-product-by c = omega arith
-
-product-by-requires : tie.Need-product-by-requires Inv-loop μ-loop
-product-by-requires c κs = c .before .before .before .before .before .before .before .pre .0
-
-sum-requires : tie.Need-sum-requires Inv-loop μ-loop
-sum-requires c κs = tt
-
-element-write-locator : tie.Need-element-write-locator Inv-loop μ-loop
-element-write-locator c = omega arith
-
-product-by-requires-2 : tie.Need-product-by-requires-2 Inv-loop μ-loop
-product-by-requires-2 c κs = c .before .before .before .before .before .before .before .before .before .pre .0
-
-element-write-before : tie.Need-element-write-before Inv-loop μ-loop
-element-write-before c = omega arith
-
-loop-less : tie.Need-loop-less Inv-loop μ-loop
-loop-less c = omega arith
-
 loop-again : tie.Need-loop-again Inv-loop μ-loop
 loop-again c =
-    let d = c .before .before .before .before .before .before .before .before in
+    let raised = c .before .before .before .before in
+    let d = raised .before .before .before .before in
     let y = d .before .before .args in
     let i = d .loop .i in
     let v = d .loop .inv .1 in
@@ -83,7 +43,7 @@ loop-again c =
       remade-more _ i _ _ _ _ v (omega arith) (omega arith) (omega arith)
           (c .before .sum .ensures
           ∙ ap₂ plus
-          (c .before .before .before .before .raised-at .ensures
+          (raised .raised-at .ensures
           ∙ raised-below (y .k + 1 - 2 * y .size) (i - 1) i _ _ (omega arith) (v .below))
           (c .before .before .product-by .ensures ∙ ap (times (y .discrepancy)) (w .below (i - 1) (omega arith)))),
       remade-more _ i _ _ _ _ w (omega arith) (omega arith) (omega arith)
@@ -109,21 +69,21 @@ lengthen-spec =
     Inv-loop
     μ-loop
     inverse-by-requires
-    add-shift
-    mul-shift
-    sub-shift
-    add-i
-    sub-i
+    (λ c. omega arith)
+    (λ c. omega arith)
+    (λ c. omega arith)
+    (λ c. omega arith)
+    (λ c. omega arith)
     loop-holds
-    sub-i-2
-    element-copy-out-last
+    (λ c. omega arith)
+    (λ c. omega arith)
     raised-at-requires
-    element-copy-out-product-by
-    product-by-requires
-    sum-requires
-    element-write-locator
-    product-by-requires-2
-    element-write-before
-    loop-less
+    (λ c. omega arith)
+    (λ c κs. search needs)
+    (λ c κs. tt)
+    (λ c. omega arith)
+    (λ c κs. search needs)
+    (λ c. omega arith)
+    (λ c. omega arith)
     loop-again
     returns)

@@ -17,52 +17,33 @@ Inv-loop powers logarithms sums many locator₀ before₀ size₀ k₀ locator b
 abbrev μ-loop : tie.MeasureT-loop
 μ-loop powers logarithms sums many locator₀ before₀ size₀ k₀ locator before size k = many - k
 
-array-write-locator : tie.Need-array-write-locator Inv-loop μ-loop
-array-write-locator c = omega arith
-
 loop-holds : tie.Need-loop-holds Inv-loop μ-loop
 loop-holds c = (omega arith, omega arith, stands-start (entries (c .before .args .sums .now)))
-
-sub-discrepancy : tie.Need-sub-discrepancy Inv-loop μ-loop
-sub-discrepancy c = omega arith
 
 discrepancy-requires : tie.Need-discrepancy-requires Inv-loop μ-loop
 discrepancy-requires c κs =
     let d = c .before .before in
     (d .before .before .pre .0, (d .loop .inv .2 .locator .long, omega arith, omega arith))
 
-mul-if2 : tie.Need-mul-if2 Inv-loop μ-loop
-mul-if2 c = omega arith
-
 lengthen-requires : tie.Need-lengthen-requires Inv-loop μ-loop
 lengthen-requires c κs =
-    let d = c .before .before .before .before .before .before .before in
+    let found = c .before .before .before .before in
+    let d = found .before .before .before in
     let s = d .loop .inv .2 in
     (d .before .before .pre .0, ((s .locator .long, s .before .long), (omega arith, omega arith)))
 
-add-size : tie.Need-add-size Inv-loop μ-loop
-add-size c = omega arith
-
-sub-size : tie.Need-sub-size Inv-loop μ-loop
-sub-size c = omega arith
-
 slice-aggregate-amend : tie.Need-slice-aggregate-amend Inv-loop μ-loop
-slice-aggregate-amend c = sym (c .before .before .before .before .before .before .loop .inv .2 .locator .long)
+slice-aggregate-amend c = let found = c .before .before .before in sym (found .before .before .before .loop .inv .2 .locator .long)
 
 slice-aggregate-amend-2 : tie.Need-slice-aggregate-amend-2 Inv-loop μ-loop
-slice-aggregate-amend-2 c = sym (c .before .before .before .before .before .before .before .loop .inv .2 .before .long)
+slice-aggregate-amend-2 c = let found = c .before .before .before .before in sym (found .before .before .before .loop .inv .2 .before .long)
 
 amend-requires : tie.Need-amend-requires Inv-loop μ-loop
 amend-requires c κs =
-    let d = c .before .before .before .before .before .before .before in
+    let found = c .before .before .before .before in
+    let d = found .before .before .before in
     let s = d .loop .inv .2 in
     (d .before .before .pre .0, ((s .locator .long, s .before .long), (omega arith, omega arith, omega arith)))
-
-add-k : tie.Need-add-k Inv-loop μ-loop
-add-k c = omega arith
-
-loop-less : tie.Need-loop-less Inv-loop μ-loop
-loop-less c = omega arith
 
 -- by which way the turn went
 turn :
@@ -102,18 +83,18 @@ locate-spec =
     (tie.spec
     Inv-loop
     μ-loop
-    array-write-locator
+    (λ c. omega arith)
     loop-holds
-    sub-discrepancy
+    (λ c. omega arith)
     discrepancy-requires
-    mul-if2
+    (λ c. omega arith)
     lengthen-requires
-    add-size
-    sub-size
+    (λ c. omega arith)
+    (λ c. omega arith)
     slice-aggregate-amend
     slice-aggregate-amend-2
     amend-requires
-    add-k
-    loop-less
+    (λ c. omega arith)
+    (λ c. omega arith)
     loop-again
     returns)

@@ -5,9 +5,6 @@ use Rattle.locator.proofs.Polynomials.Raised.{raised-low, raised-high}
 use Rattle.locator.proofs.berlekamp.raised_at.Statement.{statement}
 use Rattle.locator.proofs.berlekamp.raised_at.Tie as tie
 
-element-copy-out-result : tie.Need-element-copy-out-result
-element-copy-out-result c = omega arith
-
 returns : tie.Need-returns
 returns c =
     let y = c .before .before .args in
@@ -19,4 +16,4 @@ returns-2 c =
     sym (raised-low (y .shift) (y .i) (y .polynomial .now) (omega arith))
 
 pub raised-at-spec : {M : Type 1} → statement M
-raised-at-spec = tie.close (tie.spec element-copy-out-result returns returns-2)
+raised-at-spec = tie.close (tie.spec (λ c. omega arith) returns returns-2)

@@ -21,21 +21,6 @@ abbrev μ-loop : tie.MeasureT-loop
 loop-holds : tie.Need-loop-holds Inv-loop μ-loop
 loop-holds c = (omega arith, λ k h o. absurd (omega arith))
 
-mul-at : tie.Need-mul-at Inv-loop μ-loop
-mul-at c = omega arith
-
-add-at : tie.Need-add-at Inv-loop μ-loop
-add-at c = omega arith
-
-shared-slice-read-if1 : tie.Need-shared-slice-read-if1 Inv-loop μ-loop
-shared-slice-read-if1 c = omega arith
-
-sub-product-by : tie.Need-sub-product-by Inv-loop μ-loop
-sub-product-by c = omega arith
-
-shared-slice-read-product-by : tie.Need-shared-slice-read-product-by Inv-loop μ-loop
-shared-slice-read-product-by c = omega arith
-
 product-by-requires : tie.Need-product-by-requires Inv-loop μ-loop
 product-by-requires c κs = c .before .before .before .before .before .pre .0
 
@@ -44,12 +29,6 @@ unfolding Geometric-as
 returns c =
     let l = c .before .before .before .before .before in
     (l .loop .i, c .before .before .before .before .loop-test .taken, λ e. c .if1 .taken (e ∙ sym (c .before .product-by .ensures)))
-
-add-i : tie.Need-add-i Inv-loop μ-loop
-add-i c = omega arith
-
-loop-less : tie.Need-loop-less Inv-loop μ-loop
-loop-less c = omega arith
 
 loop-again : tie.Need-loop-again Inv-loop μ-loop
 loop-again c =
@@ -67,14 +46,14 @@ is-geometric-spec =
     Inv-loop
     μ-loop
     loop-holds
-    mul-at
-    add-at
-    shared-slice-read-if1
-    sub-product-by
-    shared-slice-read-product-by
+    (λ c. omega arith)
+    (λ c. omega arith)
+    (λ c. omega arith)
+    (λ c. omega arith)
+    (λ c. omega arith)
     product-by-requires
     returns
-    add-i
-    loop-less
+    (λ c. omega arith)
+    (λ c. omega arith)
     loop-again
     returns-2)

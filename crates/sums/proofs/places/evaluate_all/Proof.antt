@@ -15,37 +15,20 @@ Inv-loop powers coefficients many n count places rows₀ m₀ rows m = (m ≤ ma
 abbrev μ-loop : tie.MeasureT-loop
 μ-loop powers coefficients many n count places rows₀ m₀ rows m = many - m
 
-add-places : tie.Need-add-places Inv-loop μ-loop
-add-places c = omega arith
-
 loop-holds : tie.Need-loop-holds Inv-loop μ-loop
 loop-holds c = (omega arith, evaluated-none _ _ _ _ refl refl)
 
 place-powers-requires : tie.Need-place-powers-requires Inv-loop μ-loop
 place-powers-requires c κs = let s = c .before .before .before in (s .pre .0, omega arith, s .pre .3)
 
-mul-at : tie.Need-mul-at Inv-loop μ-loop
-mul-at c = omega arith
-
-add-end : tie.Need-add-end Inv-loop μ-loop
-add-end c = omega arith
-
-sub-add-products : tie.Need-sub-add-products Inv-loop μ-loop
-sub-add-products c = omega arith
-
-part-add-products-start : tie.Need-part-add-products-start Inv-loop μ-loop
-part-add-products-start c = omega arith
-
-part-add-products-end : tie.Need-part-add-products-end Inv-loop μ-loop
-part-add-products-end c = omega arith
-
 array-share-prefix-constants : tie.Need-array-share-prefix-constants Inv-loop μ-loop
 array-share-prefix-constants c = omega (arith, c .before .place-powers .ensures .long)
 
 slice-aggregate-add-products : tie.Need-slice-aggregate-add-products Inv-loop μ-loop
 slice-aggregate-add-products c =
-    let a = c .before .before .before .before .before .before .args in
-    sym (length-take-le (a .n + a .count) (c .before .before .place-powers .result) (omega (arith, c .before .before .place-powers .ensures .long)))
+    let found = c .before .before in
+    let a = found .before .before .before .before .args in
+    sym (length-take-le (a .n + a .count) (found .place-powers .result) (omega (arith, found .place-powers .ensures .long)))
 
 slice-aggregate-add-products-2 : tie.Need-slice-aggregate-add-products-2 Inv-loop μ-loop
 slice-aggregate-add-products-2 c = sym (c .before .before .before .before .before .loop .inv .1 .long)
@@ -60,21 +43,15 @@ add-products-requires c κs =
       omega (arith, length-take-le (a .n + a .count) (found .result) (omega (arith, found .ensures .long)), d .loop .inv .1 .long),
     )
 
-add-m : tie.Need-add-m Inv-loop μ-loop
-add-m c = omega arith
-
-loop-less : tie.Need-loop-less Inv-loop μ-loop
-loop-less c = omega arith
-
 loop-again : tie.Need-loop-again Inv-loop μ-loop
 loop-again c =
-    let d = c .before .before .before .before .before .before .before in
+    let found = c .before .before .before .before .before in
+    let d = found .before .before in
     let a = d .before .before .args in
     let m = d .loop .m in (
       omega arith,
       evaluated-more m (a .n) (a .count) (a .coefficients .now) _ _ _ _ (omega arith) (λ i. d .before .shared-slice-known .given i .fits)
-          (row-at (a .coefficients .now) m)
-          (c .before .before .before .before .before .place-powers .ensures) (d .loop .inv .1) (c .before .add-products .ensures),
+          (row-at (a .coefficients .now) m) (found .place-powers .ensures) (d .loop .inv .1) (c .before .add-products .ensures),
     )
 
 returns : tie.Need-returns Inv-loop μ-loop
@@ -86,19 +63,19 @@ evaluate-all-spec =
     (tie.spec
     Inv-loop
     μ-loop
-    add-places
+    (λ c. omega arith)
     loop-holds
     place-powers-requires
-    mul-at
-    add-end
-    sub-add-products
-    part-add-products-start
-    part-add-products-end
+    (λ c. omega arith)
+    (λ c. omega arith)
+    (λ c. omega arith)
+    (λ c. omega arith)
+    (λ c. omega arith)
     array-share-prefix-constants
     slice-aggregate-add-products
     slice-aggregate-add-products-2
     add-products-requires
-    add-m
-    loop-less
+    (λ c. omega arith)
+    (λ c. omega arith)
     loop-again
     returns)

@@ -6,21 +6,9 @@ use Rattle.locator.specs.Errors.{place-exponent}
 use Rattle.sums.proofs.places.place_exponent.Statement.{statement}
 use Rattle.sums.proofs.places.place_exponent.Tie as tie
 
-sub-result : tie.Need-sub-result
-sub-result c = search needs
-
 returns : tie.Need-returns
 unfolding place-exponent
 returns c = (omega arith, rw (lt-ltb (c .before .args .j) (c .before .args .n) (omega arith)))
-
-add-result : tie.Need-add-result
-add-result c = search needs
-
-sub-result-2 : tie.Need-sub-result-2
-sub-result-2 c = search needs
-
-sub-result-3 : tie.Need-sub-result-3
-sub-result-3 c = search needs
 
 returns-2 : tie.Need-returns-2
 unfolding place-exponent
@@ -28,4 +16,4 @@ returns-2 c = (omega arith, rw (le-ltb (c .before .args .j) (c .before .args .n)
 
 pub place-exponent-spec : {M : Type 1} → statement M
 place-exponent-spec =
-    tie.close (tie.spec sub-result returns add-result sub-result-2 sub-result-3 returns-2)
+    tie.close (tie.spec (λ c. search needs) returns (λ c. search needs) (λ c. search needs) (λ c. search needs) returns-2)

@@ -10,38 +10,17 @@ use Rattle.sums.proofs.AllPlaces.Powers.{place-powers-joined}
 use Rattle.sums.proofs.places.place_powers.Statement.{statement}
 use Rattle.sums.proofs.places.place_powers.Tie as tie
 
-sub-step : tie.Need-sub-step
-sub-step c = omega arith
-
-add-places : tie.Need-add-places
-add-places c = omega arith
-
-mul-progression : tie.Need-mul-progression
-mul-progression c = omega arith
-
-array-borrow-prefix-constants : tie.Need-array-borrow-prefix-constants
-array-borrow-prefix-constants c = omega arith
-
 slice-aggregate-progression : tie.Need-slice-aggregate-progression
 slice-aggregate-progression c = sym (length-take-le (c .before .args .n) (replicate most-places 0) (omega arith))
 
 progression-requires : tie.Need-progression-requires
 progression-requires c κs = (c .before .pre .0, omega arith, omega arith)
 
-add-progression : tie.Need-add-progression
-add-progression c = omega arith
-
 mul-progression-2 : tie.Need-mul-progression-2
 mul-progression-2 c =
     let s = c .before .before .before in
     let bound : (254 + s .args .count) * s .args .m ≤ (254 + most-places) * plane-room = mul-le-mul {n₂ = 254 + most-places} {m₂ = plane-room} (omega arith) (omega arith) in
     omega arith
-
-sub-progression : tie.Need-sub-progression
-sub-progression c = omega arith
-
-part-constants-start : tie.Need-part-constants-start
-part-constants-start c = omega arith
 
 part-constants-end : tie.Need-part-constants-end
 part-constants-end c =
@@ -53,24 +32,25 @@ progression-requires-2 c κs = (c .before .before .before .before .pre .0, omega
 
 returns : tie.Need-returns
 returns c =
-    let s = c .before .before .before .before .before .before in
-    place-powers-joined (s .args .m) (s .args .n) (s .args .count) (replicate most-places 0) _ _ (omega arith) refl (omega arith)
-    (c .before .before .before .before .progression .ensures) (c .before .progression2 .ensures)
+    let columns = c .before .before .before .before in
+    let a = columns .before .before .args in
+    place-powers-joined (a .m) (a .n) (a .count) (replicate most-places 0) _ _ (omega arith) refl (omega arith)
+    (columns .progression .ensures) (c .before .progression2 .ensures)
 
 pub place-powers-spec : {M : Type 1} → statement M
 place-powers-spec =
     tie.close
     (tie.spec
-    sub-step
-    add-places
-    mul-progression
-    array-borrow-prefix-constants
+    (λ c. omega arith)
+    (λ c. omega arith)
+    (λ c. omega arith)
+    (λ c. omega arith)
     slice-aggregate-progression
     progression-requires
-    add-progression
+    (λ c. omega arith)
     mul-progression-2
-    sub-progression
-    part-constants-start
+    (λ c. omega arith)
+    (λ c. omega arith)
     part-constants-end
     progression-requires-2
     returns)

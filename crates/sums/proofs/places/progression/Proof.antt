@@ -29,26 +29,8 @@ Inv-loop powers start step constants₀ back exponent₀ i₀ constants exponent
 abbrev μ-loop : tie.MeasureT-loop
 μ-loop powers start step constants₀ back exponent₀ i₀ constants exponent i = length constants₀ - i
 
-sub-back : tie.Need-sub-back Inv-loop μ-loop
-sub-back c = omega arith
-
 loop-holds : tie.Need-loop-holds Inv-loop μ-loop
 loop-holds c = (omega arith, omega arith, ap (power 2) (omega arith), filled-none _ _ _ refl)
-
-element-copy-out-constants : tie.Need-element-copy-out-constants Inv-loop μ-loop
-element-copy-out-constants c = omega arith
-
-slice-write-constants : tie.Need-slice-write-constants Inv-loop μ-loop
-slice-write-constants c = omega arith
-
-add-exponent : tie.Need-add-exponent Inv-loop μ-loop
-add-exponent c = omega arith
-
-add-i : tie.Need-add-i Inv-loop μ-loop
-add-i c = omega arith
-
-loop-less : tie.Need-loop-less Inv-loop μ-loop
-loop-less c = omega arith
 
 loop-again : tie.Need-loop-again Inv-loop μ-loop
 loop-again c =
@@ -74,13 +56,13 @@ progression-spec =
     (tie.spec
     Inv-loop
     μ-loop
-    sub-back
+    (λ c. omega arith)
     loop-holds
-    element-copy-out-constants
-    slice-write-constants
-    add-exponent
-    add-i
-    loop-less
+    (λ c. omega arith)
+    (λ c. omega arith)
+    (λ c. omega arith)
+    (λ c. omega arith)
+    (λ c. omega arith)
     loop-again
     same-length
     returns)

@@ -4,14 +4,8 @@ use Rattle.sums.proofs.Sums.Terms.{products-of-zeros}
 use Rattle.sums.proofs.rows.add_row.Statement.{statement}
 use Rattle.sums.proofs.rows.add_row.Tie as tie
 
-any-of-requires : tie.Need-any-of-requires
-any-of-requires c κs = search needs
-
 returns : tie.Need-returns
 returns c = products-of-zeros _ _ _ (λ i. c .before .before .slice-known .given i .fits) (c .before .any-of .ensures .none (c .if1 .taken))
-
-add-products-requires : tie.Need-add-products-requires
-add-products-requires c κs = c .before .before .before .before .before .before .pre
 
 same-length : tie.Need-same-length
 same-length c = c .before .before .add-products .ensures .long
@@ -20,4 +14,4 @@ returns-2 : tie.Need-returns-2
 returns-2 c = c .before .before .add-products .ensures
 
 pub add-row-spec : {M : Type 1} → statement M
-add-row-spec = tie.close (tie.spec any-of-requires returns add-products-requires same-length returns-2)
+add-row-spec = tie.close (tie.spec (λ c κs. search needs) returns (λ c κs. search needs) same-length returns-2)

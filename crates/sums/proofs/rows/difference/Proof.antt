@@ -18,35 +18,26 @@ abbrev μ-loop : tie.MeasureT-loop
 loop-holds : tie.Need-loop-holds Inv-loop μ-loop
 loop-holds c = (omega arith, omega arith, values-none _ _ _ _ refl refl)
 
-mul-sum-bytes : tie.Need-mul-sum-bytes Inv-loop μ-loop
-mul-sum-bytes c = omega arith
-
 sum-bytes-requires : tie.Need-sum-bytes-requires Inv-loop μ-loop
 sum-bytes-requires c κs =
-    let l = c .before .before .loop in
-    let a = c .before .before .before .before .before .args in
-    let p = c .before .before .before .before .before .pre in
+    let l = c .before .before in
+    let s = l .before .before .before in
     let t = c .before .loop-test .taken in
-    omega (arith, l .inv .2 .long, value-within (l .c) (a .count) (a .size) _ t (p .2), value-within (l .c) (a .count) (a .size) _ t (p .3))
+    omega (arith, l .loop .inv .2 .long, value-within (l .loop .c) (s .args .count) (s .args .size) _ t (s .pre .2), value-within (l .loop .c) (s .args .count) (s .args .size) _ t (s .pre .3))
 
 add-from : tie.Need-add-from Inv-loop μ-loop
 add-from c =
-    let s = c .before .before .before .before .before .before in
-    omega (arith, value-within (c .before .before .before .loop .c) (s .args .count) (s .args .size) _ (c .before .before .loop-test .taken) (s .pre .2))
-
-add-c : tie.Need-add-c Inv-loop μ-loop
-add-c c = omega arith
-
-loop-less : tie.Need-loop-less Inv-loop μ-loop
-loop-less c = omega arith
+    let l = c .before .before .before in
+    let s = l .before .before .before in
+    omega (arith, value-within (l .loop .c) (s .args .count) (s .args .size) _ (c .before .before .loop-test .taken) (s .pre .2))
 
 loop-again : tie.Need-loop-again Inv-loop μ-loop
 loop-again c =
-    let l = c .before .before .before .loop in
-    let s = c .before .before .before .before .before .before in (
+    let l = c .before .before .before in
+    let s = l .before .before .before in (
       omega arith,
       rw (add-one, suc-mul) (omega arith),
-      values-more (l .c) (s .args .size) _ _ _ _ _ (s .pre .1) (l .inv .1) (l .inv .2) (c .sum-bytes .ensures),
+      values-more (l .loop .c) (s .args .size) _ _ _ _ _ (s .pre .1) (l .loop .inv .1) (l .loop .inv .2) (c .sum-bytes .ensures),
     )
 
 returns : tie.Need-returns Inv-loop μ-loop
@@ -59,10 +50,10 @@ difference-spec =
     Inv-loop
     μ-loop
     loop-holds
-    mul-sum-bytes
+    (λ c. omega arith)
     sum-bytes-requires
     add-from
-    add-c
-    loop-less
+    (λ c. omega arith)
+    (λ c. omega arith)
     loop-again
     returns)

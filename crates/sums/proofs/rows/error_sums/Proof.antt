@@ -16,17 +16,15 @@ Inv-loop powers weighted n count sums₀ j₀ sums j = (j ≤ n + count) × Erro
 abbrev μ-loop : tie.MeasureT-loop
 μ-loop powers weighted n count sums₀ j₀ sums j = n + count - j
 
+-- the turn in which constants were made, and what was known before the loop
+abbrev turn : tie.After-progression Inv-loop μ-loop → tie.At-loop Inv-loop μ-loop
+turn c = c .before .before .before .before
+
+abbrev start : tie.At-loop Inv-loop μ-loop → tie.Start Inv-loop μ-loop
+start l = l .before .before
+
 loop-holds : tie.Need-loop-holds Inv-loop μ-loop
 loop-holds c = (omega arith, error-sums-none _ _ _ _ refl refl)
-
-add-loop : tie.Need-add-loop Inv-loop μ-loop
-add-loop c = omega arith
-
-place-exponent-requires : tie.Need-place-exponent-requires Inv-loop μ-loop
-place-exponent-requires c κs = omega arith
-
-array-borrow-prefix-constants : tie.Need-array-borrow-prefix-constants Inv-loop μ-loop
-array-borrow-prefix-constants c = search needs
 
 slice-aggregate-progression : tie.Need-slice-aggregate-progression Inv-loop μ-loop
 slice-aggregate-progression c = sym (length-take-le _ _ (c .before .before .before .before .before .pre .2))
@@ -34,51 +32,32 @@ slice-aggregate-progression c = sym (length-take-le _ _ (c .before .before .befo
 progression-requires : tie.Need-progression-requires Inv-loop μ-loop
 progression-requires c κs = (c .before .before .before .before .before .pre .0, omega arith, c .before .place-exponent .ensures .0)
 
-mul-at : tie.Need-mul-at Inv-loop μ-loop
-mul-at c = omega arith
-
-add-end : tie.Need-add-end Inv-loop μ-loop
-add-end c = omega arith
-
-sub-add-row : tie.Need-sub-add-row Inv-loop μ-loop
-sub-add-row c = omega arith
-
-part-add-row-start : tie.Need-part-add-row-start Inv-loop μ-loop
-part-add-row-start c = omega arith
-
-part-add-row-end : tie.Need-part-add-row-end Inv-loop μ-loop
-part-add-row-end c = omega arith
-
 array-share-prefix-constants : tie.Need-array-share-prefix-constants Inv-loop μ-loop
-array-share-prefix-constants c = front-room _ _ _ _ (c .before .before .before .before .before .before .before .before .pre .2) (c .before .before .progression .ensures)
+array-share-prefix-constants c = let made = c .before .before in front-room _ _ _ _ (start (turn made) .pre .2) (made .progression .ensures)
 
 slice-aggregate-add-row : tie.Need-slice-aggregate-add-row Inv-loop μ-loop
-slice-aggregate-add-row c = sym (filled-front _ _ _ _ (c .before .before .before .before .before .before .before .before .before .pre .2) (c .before .before .before .progression .ensures) .long)
+slice-aggregate-add-row c = let made = c .before .before .before in sym (filled-front _ _ _ _ (start (turn made) .pre .2) (made .progression .ensures) .long)
 
 slice-aggregate-add-row-2 : tie.Need-slice-aggregate-add-row-2 Inv-loop μ-loop
-slice-aggregate-add-row-2 c = omega (arith, c .before .before .before .before .before .before .before .before .loop .inv .1 .long)
+slice-aggregate-add-row-2 c = let made = c .before .before .before .before in omega (arith, turn made .loop .inv .1 .long)
 
 add-row-requires : tie.Need-add-row-requires Inv-loop μ-loop
 add-row-requires c κs =
-    let l = c .before .before .before .before .before .before .before .before .loop in
-    let s = c .before .before .before .before .before .before .before .before .before .before in
-    let f = filled-front _ _ _ _ (s .pre .2) (c .before .before .before .before .progression .ensures) in
-    (row-length (s .args .weighted .now) (l .j) (omega arith), rw (f .long) (omega (arith, l .inv .1 .long)))
-
-add-j : tie.Need-add-j Inv-loop μ-loop
-add-j c = omega arith
-
-loop-less : tie.Need-loop-less Inv-loop μ-loop
-loop-less c = omega arith
+    let made = c .before .before .before .before in
+    let l = turn made in
+    let s = start l in
+    let f = filled-front _ _ _ _ (s .pre .2) (made .progression .ensures) in
+    (row-length (s .args .weighted .now) (l .loop .j) (omega arith), rw (f .long) (omega (arith, l .loop .inv .1 .long)))
 
 loop-again : tie.Need-loop-again Inv-loop μ-loop
 loop-again c =
-    let l = c .before .before .before .before .before .before .before .before .before .before .loop in
-    let s = c .before .before .before .before .before .before .before .before .before .before .before .before in
-    let d = s .args .weighted .now in
-    let f = filled-front _ _ _ _ (s .pre .2) (c .before .before .before .before .before .before .progression .ensures) in (
+    let added = c .before in
+    let made = added .before .before .before .before .before in
+    let l = turn made in
+    let d = start l .args .weighted .now in
+    let f = filled-front _ _ _ _ (start l .pre .2) (made .progression .ensures) in (
       omega arith,
-      error-sums-more (l .j) _ _ _ d _ _ _ (c .before .before .before .before .before .before .before .before .place-exponent .ensures .1) (l .inv .1) (row-at d (l .j)) (terms-of-products _ _ _ _ _ _ f (c .before .add-row .ensures)),
+      error-sums-more (l .loop .j) _ _ _ d _ _ _ (made .before .before .place-exponent .ensures .1) (l .loop .inv .1) (row-at d (l .loop .j)) (terms-of-products _ _ _ _ _ _ f (added .add-row .ensures)),
     )
 
 returns : tie.Need-returns Inv-loop μ-loop
@@ -91,21 +70,21 @@ error-sums-spec =
     Inv-loop
     μ-loop
     loop-holds
-    add-loop
-    place-exponent-requires
-    array-borrow-prefix-constants
+    (λ c. omega arith)
+    (λ c κs. omega arith)
+    (λ c. search needs)
     slice-aggregate-progression
     progression-requires
-    mul-at
-    add-end
-    sub-add-row
-    part-add-row-start
-    part-add-row-end
+    (λ c. omega arith)
+    (λ c. omega arith)
+    (λ c. omega arith)
+    (λ c. omega arith)
+    (λ c. omega arith)
     array-share-prefix-constants
     slice-aggregate-add-row
     slice-aggregate-add-row-2
     add-row-requires
-    add-j
-    loop-less
+    (λ c. omega arith)
+    (λ c. omega arith)
     loop-again
     returns)

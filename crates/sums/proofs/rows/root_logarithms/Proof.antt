@@ -23,36 +23,18 @@ Inv-loop logarithms roots of-roots₀ i₀ of-roots i = (i ≤ most-checks) × F
 abbrev μ-loop : tie.MeasureT-loop
 μ-loop logarithms roots of-roots₀ i₀ of-roots i = most-checks - i
 
-roots-requires : tie.Need-roots-requires Inv-loop μ-loop
-roots-requires c κs = search needs
-
 loop-holds : tie.Need-loop-holds Inv-loop μ-loop
 loop-holds c = (omega arith, filled-none _ _ _ refl)
-
-array-read-of-roots : tie.Need-array-read-of-roots Inv-loop μ-loop
-array-read-of-roots c = omega arith
-
-cast-of-roots : tie.Need-cast-of-roots Inv-loop μ-loop
-cast-of-roots c = search needs
 
 element-copy-out-of-roots : tie.Need-element-copy-out-of-roots Inv-loop μ-loop
 element-copy-out-of-roots c = let i = c .before .loop .i in rw (c .before .before .roots .ensures .entry i (omega arith)) (root-lt i)
 
-array-write-of-roots : tie.Need-array-write-of-roots Inv-loop μ-loop
-array-write-of-roots c = omega arith
-
-add-i : tie.Need-add-i Inv-loop μ-loop
-add-i c = omega arith
-
-loop-less : tie.Need-loop-less Inv-loop μ-loop
-loop-less c = omega arith
-
 loop-again : tie.Need-loop-again Inv-loop μ-loop
 loop-again c =
-    let l = c .before .before .loop in (
+    let l = c .before .before in (
       omega arith,
-      filled-more _ _ _ _ _ (l .inv .1) (omega arith)
-          (ap (λ (x : ℕ). getD (c .before .before .before .before .args .logarithms .now) x 0) (c .before .before .before .roots .ensures .entry (l .i) (omega arith))),
+      filled-more _ _ _ _ _ (l .loop .inv .1) (omega arith)
+          (ap (λ (x : ℕ). getD (l .before .before .args .logarithms .now) x 0) (l .before .roots .ensures .entry (l .loop .i) (omega arith))),
     )
 
 returns : tie.Need-returns Inv-loop μ-loop
@@ -70,13 +52,13 @@ root-logarithms-spec =
     (tie.spec
     Inv-loop
     μ-loop
-    roots-requires
+    (λ c κs. search needs)
     loop-holds
-    array-read-of-roots
-    cast-of-roots
+    (λ c. omega arith)
+    (λ c. search needs)
     element-copy-out-of-roots
-    array-write-of-roots
-    add-i
-    loop-less
+    (λ c. omega arith)
+    (λ c. omega arith)
+    (λ c. omega arith)
     loop-again
     returns)

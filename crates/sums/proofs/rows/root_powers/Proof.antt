@@ -29,9 +29,6 @@ abbrev μ-loop : tie.MeasureT-loop
 loop-holds : tie.Need-loop-holds Inv-loop μ-loop
 loop-holds c = (omega arith, filled-none _ _ _ refl)
 
-element-copy-out-logarithm : tie.Need-element-copy-out-logarithm Inv-loop μ-loop
-element-copy-out-logarithm c = omega arith
-
 cast-logarithm : tie.Need-cast-logarithm Inv-loop μ-loop
 cast-logarithm c = omega (arith, c .before .before .before .pre .1 .small (c .before .before .loop .i) (omega arith))
 
@@ -39,18 +36,6 @@ mul-constants : tie.Need-mul-constants Inv-loop μ-loop
 mul-constants c =
     let s = c .before .before .before in
     omega (arith, product-small _ (s .args .exponent) (s .pre .1 .small (c .before .before .loop .i) (omega arith)) (s .pre .2))
-
-element-copy-out-constants : tie.Need-element-copy-out-constants Inv-loop μ-loop
-element-copy-out-constants c = omega arith
-
-array-write-constants : tie.Need-array-write-constants Inv-loop μ-loop
-array-write-constants c = omega arith
-
-add-i : tie.Need-add-i Inv-loop μ-loop
-add-i c = omega arith
-
-loop-less : tie.Need-loop-less Inv-loop μ-loop
-loop-less c = omega arith
 
 loop-again : tie.Need-loop-again Inv-loop μ-loop
 loop-again c =
@@ -71,12 +56,12 @@ root-powers-spec =
     Inv-loop
     μ-loop
     loop-holds
-    element-copy-out-logarithm
+    (λ c. omega arith)
     cast-logarithm
     mul-constants
-    element-copy-out-constants
-    array-write-constants
-    add-i
-    loop-less
+    (λ c. omega arith)
+    (λ c. omega arith)
+    (λ c. omega arith)
+    (λ c. omega arith)
     loop-again
     returns)

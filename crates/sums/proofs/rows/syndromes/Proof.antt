@@ -14,66 +14,48 @@ Inv-loop powers logarithms difference count of-roots sums₀ c₀ sums c = (c �
 abbrev μ-loop : tie.MeasureT-loop
 μ-loop powers logarithms difference count of-roots sums₀ c₀ sums c = count - c
 
+-- the turn in which powers of the roots were made, and what was known before the loop
+abbrev turn : tie.After-root-powers Inv-loop μ-loop → tie.At-loop Inv-loop μ-loop
+turn c = c .before .before .before
+
+abbrev start : tie.At-loop Inv-loop μ-loop → tie.Start Inv-loop μ-loop
+start l = l .before .before .before
+
 root-logarithms-requires : tie.Need-root-logarithms-requires Inv-loop μ-loop
 root-logarithms-requires c κs = c .before .pre .1
 
 loop-holds : tie.Need-loop-holds Inv-loop μ-loop
 loop-holds c = (omega arith, check-sums-none _ _ _ refl refl)
 
-sub-root-powers : tie.Need-sub-root-powers Inv-loop μ-loop
-sub-root-powers c = omega arith
-
-sub-root-powers-2 : tie.Need-sub-root-powers-2 Inv-loop μ-loop
-sub-root-powers-2 c = omega arith
-
 root-powers-requires : tie.Need-root-powers-requires Inv-loop μ-loop
-root-powers-requires c κs = (c .before .before .before .before .before .pre .0, c .before .before .before .root-logarithms .ensures, omega arith)
-
-mul-at : tie.Need-mul-at Inv-loop μ-loop
-mul-at c = omega arith
-
-add-end : tie.Need-add-end Inv-loop μ-loop
-add-end c = omega arith
-
-sub-add-row : tie.Need-sub-add-row Inv-loop μ-loop
-sub-add-row c = omega arith
-
-part-add-row-start : tie.Need-part-add-row-start Inv-loop μ-loop
-part-add-row-start c = omega arith
-
-part-add-row-end : tie.Need-part-add-row-end Inv-loop μ-loop
-part-add-row-end c = omega arith
+root-powers-requires c κs = let made = c .before .before .before in (made .before .before .pre .0, made .root-logarithms .ensures, omega arith)
 
 array-share-prefix-constants : tie.Need-array-share-prefix-constants Inv-loop μ-loop
 array-share-prefix-constants c = omega (arith, c .before .root-powers .ensures .long)
 
 slice-aggregate-add-row : tie.Need-slice-aggregate-add-row Inv-loop μ-loop
 slice-aggregate-add-row c =
-    sym (filled-prefix _ _ _ _ (c .before .before .before .before .before .before .before .before .pre .2) (c .before .before .root-powers .ensures) .long)
+    let raised = c .before .before in
+    sym (filled-prefix _ _ _ _ (start (turn raised) .pre .2) (raised .root-powers .ensures) .long)
 
 slice-aggregate-add-row-2 : tie.Need-slice-aggregate-add-row-2 Inv-loop μ-loop
-slice-aggregate-add-row-2 c = omega (arith, c .before .before .before .before .before .before .loop .inv .1 .long)
+slice-aggregate-add-row-2 c = let raised = c .before .before .before in omega (arith, turn raised .loop .inv .1 .long)
 
 add-row-requires : tie.Need-add-row-requires Inv-loop μ-loop
 add-row-requires c κs =
-    let l = c .before .before .before .before .before .before .loop in
-    let s = c .before .before .before .before .before .before .before .before .before in
-    let f = filled-prefix _ _ _ _ (s .pre .2) (c .before .before .before .root-powers .ensures) in
-    (row-length (s .args .difference .now) (l .c) (omega arith), rw (f .long) (omega (arith, l .inv .1 .long)))
-
-add-c : tie.Need-add-c Inv-loop μ-loop
-add-c c = omega arith
-
-loop-less : tie.Need-loop-less Inv-loop μ-loop
-loop-less c = omega arith
+    let raised = c .before .before .before in
+    let l = turn raised in
+    let s = start l in
+    let f = filled-prefix _ _ _ _ (s .pre .2) (raised .root-powers .ensures) in
+    (row-length (s .args .difference .now) (l .loop .c) (omega arith), rw (f .long) (omega (arith, l .loop .inv .1 .long)))
 
 loop-again : tie.Need-loop-again Inv-loop μ-loop
 loop-again c =
-    let l = c .before .before .before .before .before .before .before .before .loop in
-    let s = c .before .before .before .before .before .before .before .before .before .before .before in
-    let d = s .args .difference .now in
-    let f = filled-prefix _ _ _ _ (s .pre .2) (c .before .before .before .before .before .root-powers .ensures) in
-    (omega arith, check-sums-more (l .c) _ _ d _ _ _ refl (l .inv .1) (row-at d (l .c)) (terms-of-products _ _ _ _ _ _ f (c .before .add-row .ensures)))
+    let raised = c .before .before .before .before .before in
+    let l = turn raised in
+    let d = start l .args .difference .now in
+    let f = filled-prefix _ _ _ _ (start l .pre .2) (raised .root-powers .ensures) in
+    (omega arith, check-sums-more (l .loop .c) _ _ d _ _ _ refl (l .loop .inv .1) (row-at d (l .loop .c)) (terms-of-products _ _ _ _ _ _ f (c .before .add-row .ensures)))
 
 returns : tie.Need-returns Inv-loop μ-loop
 returns c = check-sums-whole (let e : c .before .loop .c ≡ _ = omega arith in e) (c .before .loop .inv .1)
@@ -86,19 +68,19 @@ syndromes-spec =
     μ-loop
     root-logarithms-requires
     loop-holds
-    sub-root-powers
-    sub-root-powers-2
+    (λ c. omega arith)
+    (λ c. omega arith)
     root-powers-requires
-    mul-at
-    add-end
-    sub-add-row
-    part-add-row-start
-    part-add-row-end
+    (λ c. omega arith)
+    (λ c. omega arith)
+    (λ c. omega arith)
+    (λ c. omega arith)
+    (λ c. omega arith)
     array-share-prefix-constants
     slice-aggregate-add-row
     slice-aggregate-add-row-2
     add-row-requires
-    add-c
-    loop-less
+    (λ c. omega arith)
+    (λ c. omega arith)
     loop-again
     returns)
