@@ -53,14 +53,8 @@ difference-requires c κs = let s = c .before .before .before .before in let z =
 slice-aggregate-is-zero : tie.Need-slice-aggregate-is-zero
 slice-aggregate-is-zero c = sym (c .before .difference .ensures .long)
 
-is-zero-requires : tie.Need-is-zero-requires
-is-zero-requires c κs = search needs
-
 copy-value-requires : tie.Need-copy-value-requires
 copy-value-requires c κs = let d = c .before .before .before .before in let l = start d .pre .1 in omega arith
-
-same-length : tie.Need-same-length
-same-length c = search needs
 
 returns : tie.Need-returns
 unfolding values-in settings value-size
@@ -75,12 +69,6 @@ returns c =
     (s .pre .1 .1) (s .pre .1 .2) (rows .ensures) (a .output .now) _ (bounds s .2)
     (zeros-of _ (rows .result) (zero .is-zero .ensures) (copied-to .before .before .if1 .taken))
     (s .pre .1 .0) (vector-bytes d) (copied (a .vector .now) (a .output .now) _ (omega (arith, s .pre .1)) (copied-to .copy-value .ensures))
-
-powers-requires : tie.Need-powers-requires
-powers-requires c κs = search needs
-
-logarithms-requires : tie.Need-logarithms-requires
-logarithms-requires c κs = search needs
 
 slice-aggregate-decode : tie.Need-slice-aggregate-decode
 slice-aggregate-decode c = sym (difference-of (c .before .before .before) .difference .ensures .long)
@@ -129,9 +117,6 @@ apply-errors-requires c κs =
     let long = decoded-long _ _ _ _ _ (not-false _ (found .if2 .left)) (e .decode .ensures) in
     ((g .before .powers .ensures, g .logarithms .ensures), ((z .0, z .2, omega arith), (s .pre .1 .0, s .pre .1 .3)))
 
-same-length-2 : tie.Need-same-length-2
-same-length-2 c = search needs
-
 returns-3 : tie.Need-returns-3
 unfolding values-in settings value-size
 returns-3 c =
@@ -154,16 +139,16 @@ by-difference-spec =
     mul-count
     difference-requires
     slice-aggregate-is-zero
-    is-zero-requires
+    (λ c κs. search needs)
     copy-value-requires
-    same-length
+    (λ c. search needs)
     returns
-    powers-requires
-    logarithms-requires
+    (λ c κs. search needs)
+    (λ c κs. search needs)
     slice-aggregate-decode
     decode-requires
     returns-2
     slice-aggregate-apply-errors
     apply-errors-requires
-    same-length-2
+    (λ c. search needs)
     returns-3)

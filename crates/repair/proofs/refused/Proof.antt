@@ -20,9 +20,6 @@ bounds : (c : tie.Else1) → let a = c .before .before .args in (a .n ≤ most-c
 unfolding settings
 bounds c = let z = sizes _ (allowed c) in (z .few-columns, z .few-bad, z .few-bytes)
 
-settings-refusal-requires : tie.Need-settings-refusal-requires
-settings-refusal-requires c κs = search needs
-
 returns : tie.Need-returns
 returns c = let a = c .before .before .args in refused-settings (a .n) (a .t) (a .w) (a .vector) (a .checks) (a .room) _ (c .before .settings-refusal .ensures) (c .if1 .taken)
 
@@ -54,7 +51,7 @@ pub refused-spec : {M : Type 1} → statement M
 refused-spec =
     tie.close
     (tie.spec
-    settings-refusal-requires
+    (λ c κs. search needs)
     returns
     mul-if2
     returns-2

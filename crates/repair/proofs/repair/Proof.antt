@@ -31,17 +31,8 @@ room : (n t w : ℕ) → settings-refusal (settings n t w) ≡ 0 → 2 * t * w �
 unfolding settings
 room n t w e = let z = sizes (settings n t w) e in check-room t w (omega (arith, z .few-columns, z .few-bad)) (z .few-bytes)
 
-refused-requires : tie.Need-refused-requires
-refused-requires c κs = search needs
-
 returns : tie.Need-returns
 returns c = let a = c .before .before .before .before .before .args in repair-refused (a .n) (a .t) (a .w) (a .vector .now) (a .checks .now) (a .output .now) _ (c .before .refused .ensures) (c .if1 .taken)
-
-slice-aggregate-check-values : tie.Need-slice-aggregate-check-values
-slice-aggregate-check-values c = search needs
-
-check-values-requires : tie.Need-check-values-requires
-check-values-requires c κs = search needs
 
 array-share-prefix-own : tie.Need-array-share-prefix-own
 array-share-prefix-own c =
@@ -59,9 +50,6 @@ by-difference-requires c κs =
     let d = taken-up e in
     let own = length-take-le (length (start e .args .checks .now)) (put .check-values .last .1 .1 .1 .1 .0) (omega (arith, d .checks, room _ _ _ (d .allowed), put .check-values .kept .1 .1 .1 .1 .0)) in
     (d .allowed, (d .vector, own ∙ d .checks, d .checks, d .room))
-
-same-length : tie.Need-same-length
-same-length c = search needs
 
 returns-2 : tie.Need-returns-2
 unfolding By-own-checks
@@ -86,12 +74,12 @@ pub repair-spec : {M : Type 1} → statement M
 repair-spec =
     tie.close
     (tie.spec
-    refused-requires
+    (λ c κs. search needs)
     returns
-    slice-aggregate-check-values
-    check-values-requires
+    (λ c. search needs)
+    (λ c κs. search needs)
     array-share-prefix-own
     slice-aggregate-by-difference
     by-difference-requires
-    same-length
+    (λ c. search needs)
     returns-2)

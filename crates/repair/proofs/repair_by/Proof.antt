@@ -14,9 +14,6 @@ start r = r .before .before .before .before .before
 passed : (c : tie.Else1) → let a = start (c .before) .args in repair-refusal (settings (a .n) (a .t) (a .w)) (length (a .vector .now)) (length (a .checks .now)) (length (a .output .now)) ≡ 0
 passed c = sym (c .before .refused .ensures) ∙ c .if1 .left
 
-refused-requires : tie.Need-refused-requires
-refused-requires c κs = search needs
-
 returns : tie.Need-returns
 returns c =
     let a = start (c .before) .args in
@@ -34,9 +31,6 @@ by-difference-requires c κs =
     let d = accepted (a .n) (a .t) (a .w) _ _ _ (passed (c .before .before)) in
     (d .allowed, (d .vector, c .before .if2 .left ∙ d .checks, d .checks, d .room))
 
-same-length : tie.Need-same-length
-same-length c = search needs
-
 returns-3 : tie.Need-returns-3
 returns-3 c =
     let repaired = c .before .before in
@@ -49,4 +43,4 @@ returns-3 c =
 pub repair-by-spec : {M : Type 1} → statement M
 repair-by-spec =
     tie.close
-    (tie.spec refused-requires returns returns-2 by-difference-requires same-length returns-3)
+    (tie.spec (λ c κs. search needs) returns returns-2 by-difference-requires (λ c. search needs) returns-3)

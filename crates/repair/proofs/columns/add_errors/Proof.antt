@@ -40,26 +40,11 @@ returns c =
 loop-holds : tie.Need-loop-holds Inv-loop μ-loop
 loop-holds c = (omega arith, filled-none _ _ (start (c .before) .args .output .now) refl)
 
-shared-slice-read-sum : tie.Need-shared-slice-read-sum Inv-loop μ-loop
-shared-slice-read-sum c = omega arith
-
-shared-slice-read-product-by : tie.Need-shared-slice-read-product-by Inv-loop μ-loop
-shared-slice-read-product-by c = omega arith
-
 product-by-requires : tie.Need-product-by-requires Inv-loop μ-loop
 product-by-requires c κs = let l = c .before .before .before in start (l .before .before) .pre .0
 
-sum-requires : tie.Need-sum-requires Inv-loop μ-loop
-sum-requires c κs = tt
-
 slice-write-output : tie.Need-slice-write-output Inv-loop μ-loop
 slice-write-output c = omega (arith, c .before .before .before .before .before .loop .inv .1 .long)
-
-add-p : tie.Need-add-p Inv-loop μ-loop
-add-p c = omega arith
-
-loop-less : tie.Need-loop-less Inv-loop μ-loop
-loop-less c = omega arith
 
 loop-again : tie.Need-loop-again Inv-loop μ-loop
 loop-again c =
@@ -83,13 +68,13 @@ add-errors-spec =
     same-length
     returns
     loop-holds
-    shared-slice-read-sum
-    shared-slice-read-product-by
+    (λ c. omega arith)
+    (λ c. omega arith)
     product-by-requires
-    sum-requires
+    (λ c κs. tt)
     slice-write-output
-    add-p
-    loop-less
+    (λ c. omega arith)
+    (λ c. omega arith)
     loop-again
     same-length-2
     returns-2)

@@ -42,38 +42,8 @@ loop-holds c = (omega arith, mended-none _ _ _ _)
 add-end : tie.Need-add-end Inv-loop μ-loop
 add-end c = omega (arith, room c)
 
-mul-row : tie.Need-mul-row Inv-loop μ-loop
-mul-row c = omega arith
-
-add-row-end : tie.Need-add-row-end Inv-loop μ-loop
-add-row-end c = omega arith
-
-array-read-add-errors : tie.Need-array-read-add-errors Inv-loop μ-loop
-array-read-add-errors c = omega arith
-
-sub-add-errors : tie.Need-sub-add-errors Inv-loop μ-loop
-sub-add-errors c = omega arith
-
-part-add-errors-start : tie.Need-part-add-errors-start Inv-loop μ-loop
-part-add-errors-start c = omega arith
-
 part-add-errors-end : tie.Need-part-add-errors-end Inv-loop μ-loop
 part-add-errors-end c = omega (arith, room c)
-
-sub-add-errors-2 : tie.Need-sub-add-errors-2 Inv-loop μ-loop
-sub-add-errors-2 c = omega arith
-
-part-add-errors-start-2 : tie.Need-part-add-errors-start-2 Inv-loop μ-loop
-part-add-errors-start-2 c = omega arith
-
-part-add-errors-end-2 : tie.Need-part-add-errors-end-2 Inv-loop μ-loop
-part-add-errors-end-2 c = omega arith
-
-sub-add-errors-3 : tie.Need-sub-add-errors-3 Inv-loop μ-loop
-sub-add-errors-3 c = omega arith
-
-part-add-errors-start-3 : tie.Need-part-add-errors-start-3 Inv-loop μ-loop
-part-add-errors-start-3 c = omega arith
 
 part-add-errors-end-3 : tie.Need-part-add-errors-end-3 Inv-loop μ-loop
 part-add-errors-end-3 c = omega (arith, room (c .before .before), long (c .before .before))
@@ -93,12 +63,6 @@ add-errors-requires c κs =
         part-long (row-width * l .k) row-width (s .args .weighted .now) (omega arith),
       ),
     )
-
-add-k : tie.Need-add-k Inv-loop μ-loop
-add-k c = omega arith
-
-loop-less : tie.Need-loop-less Inv-loop μ-loop
-loop-less c = omega arith
 
 loop-again : tie.Need-loop-again Inv-loop μ-loop
 loop-again c =
@@ -131,21 +95,21 @@ apply-errors-spec =
     inverse-weights-requires
     loop-holds
     add-end
-    mul-row
-    add-row-end
-    array-read-add-errors
-    sub-add-errors
-    part-add-errors-start
+    (λ c. omega arith)
+    (λ c. omega arith)
+    (λ c. omega arith)
+    (λ c. omega arith)
+    (λ c. omega arith)
     part-add-errors-end
-    sub-add-errors-2
-    part-add-errors-start-2
-    part-add-errors-end-2
-    sub-add-errors-3
-    part-add-errors-start-3
+    (λ c. omega arith)
+    (λ c. omega arith)
+    (λ c. omega arith)
+    (λ c. omega arith)
+    (λ c. omega arith)
     part-add-errors-end-3
     add-errors-requires
-    add-k
-    loop-less
+    (λ c. omega arith)
+    (λ c. omega arith)
     loop-again
     same-length
     returns)

@@ -9,15 +9,6 @@ use Rattle.sums.proofs.AllPlaces.Powers.{first-logarithm}
 use Rattle.repair.proofs.columns.inverse_weights.Statement.{statement}
 use Rattle.repair.proofs.columns.inverse_weights.Tie as tie
 
-roots-requires : tie.Need-roots-requires
-roots-requires c κs = search needs
-
-array-read-first : tie.Need-array-read-first
-array-read-first c = omega arith
-
-cast-first : tie.Need-cast-first
-cast-first c = search needs
-
 element-copy-out-first : tie.Need-element-copy-out-first
 element-copy-out-first c = rw (c .roots .ensures .entry 0 (omega arith)) (root-lt 0)
 
@@ -45,9 +36,9 @@ pub inverse-weights-spec : {M : Type 1} → statement M
 inverse-weights-spec =
     tie.close
     (tie.spec
-    roots-requires
-    array-read-first
-    cast-first
+    (λ c κs. search needs)
+    (λ c. omega arith)
+    (λ c. search needs)
     element-copy-out-first
     cast-first-2
     slice-aggregate-progression

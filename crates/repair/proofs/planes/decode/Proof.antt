@@ -20,9 +20,6 @@ mul-syndromes c = let z = bounds (c .before) in omega arith
 syndromes-requires : tie.Need-syndromes-requires
 syndromes-requires c κs = let z = bounds (c .before) in (c .before .pre .0 .0, c .before .pre .0 .1, omega arith, omega arith)
 
-slice-aggregate-single-errors : tie.Need-slice-aggregate-single-errors
-slice-aggregate-single-errors c = search needs
-
 single-errors-requires : tie.Need-single-errors-requires
 single-errors-requires c κs =
     let s = c .before .before .before in
@@ -36,9 +33,6 @@ returns c =
     let s = y .before .before in
     decoded-single (settings (s .args .n) (s .args .t) (s .args .planes)) _ _ _ (s .pre .1 .0 .0) (λ i. y .before .shared-slice-known .given i .fits)
     (y .syndromes .ensures) (s .pre .1 .0 .2) _ _ (c .if1 .taken) (c .before .single-errors .ensures)
-
-slice-aggregate-search-errors : tie.Need-slice-aggregate-search-errors
-slice-aggregate-search-errors c = search needs
 
 search-errors-requires : tie.Need-search-errors-requires
 unfolding settings check-count
@@ -68,9 +62,9 @@ decode-spec =
     (tie.spec
     mul-syndromes
     syndromes-requires
-    slice-aggregate-single-errors
+    (λ c. search needs)
     single-errors-requires
     returns
-    slice-aggregate-search-errors
+    (λ c. search needs)
     search-errors-requires
     returns-2)

@@ -47,32 +47,14 @@ module _ (o : tie.After-plane-of2 Inv-loop μ-loop) where
   places-long : let many = start (turn o) .args .n + 2 * start (turn o) .args .t in length (take many (turn o .before .place-powers .result)) ≡ many
   places-long = length-take-le _ (turn o .before .place-powers .result) (omega (arith, start (turn o) .pre .1 .0, turn o .before .place-powers .ensures .long))
 
-mul-count : tie.Need-mul-count Inv-loop μ-loop
-mul-count c = omega arith
-
-add-many : tie.Need-add-many Inv-loop μ-loop
-add-many c = omega arith
-
 place-powers-requires : tie.Need-place-powers-requires Inv-loop μ-loop
 place-powers-requires c κs = (c .before .before .before .pre .0 .0, omega arith, omega arith)
 
 loop-holds : tie.Need-loop-holds Inv-loop μ-loop
 loop-holds c = (omega arith, weighted-none _ _ _ refl refl, λ q h. absurd (omega arith))
 
-plane-of-requires : tie.Need-plane-of-requires Inv-loop μ-loop
-plane-of-requires c κs = omega arith
-
-add-plane-of : tie.Need-add-plane-of Inv-loop μ-loop
-add-plane-of c = omega arith
-
 plane-of-requires-2 : tie.Need-plane-of-requires-2 Inv-loop μ-loop
 plane-of-requires-2 c κs = omega (arith, start (c .before .before) .pre .1 .1 .0 .long)
-
-mul-end : tie.Need-mul-end Inv-loop μ-loop
-mul-end c = omega arith
-
-array-read-end : tie.Need-array-read-end Inv-loop μ-loop
-array-read-end c = omega arith
 
 add-end : tie.Need-add-end Inv-loop μ-loop
 add-end c = omega (arith, small c)
@@ -123,9 +105,6 @@ weighted-errors-requires c κs =
       ),
     )
 
-add-if1 : tie.Need-add-if1 Inv-loop μ-loop
-add-if1 c = omega arith
-
 slice-aggregate-count-wrong : tie.Need-slice-aggregate-count-wrong Inv-loop μ-loop
 slice-aggregate-count-wrong c = let e = c .before .before in sym (e .weighted-errors .ensures .long ∙ turn (taken e) .loop .inv .1 .long)
 
@@ -147,12 +126,6 @@ returns c =
     weighted-more (s .args .n) (s .args .t) (inside o) (omega arith) (omega arith) (omega arith) (s .pre .1 .1 .0) (o .before .plane-of .ensures) (o .plane-of2 .ensures)
     (l .before .place-powers .ensures) (places-long o) (e .weighted-errors .ensures) (l .loop .inv .1) in
     (l .loop .p, inside o, (_, next .located (l .loop .p) (omega arith), omega (arith, c .before .count-wrong .ensures .0)))
-
-add-p : tie.Need-add-p Inv-loop μ-loop
-add-p c = omega arith
-
-loop-less : tie.Need-loop-less Inv-loop μ-loop
-loop-less c = omega arith
 
 loop-again : tie.Need-loop-again Inv-loop μ-loop
 loop-again c =
@@ -183,15 +156,15 @@ errors-at-places-spec =
     (tie.spec
     Inv-loop
     μ-loop
-    mul-count
-    add-many
+    (λ c. omega arith)
+    (λ c. omega arith)
     place-powers-requires
     loop-holds
-    plane-of-requires
-    add-plane-of
+    (λ c κs. omega arith)
+    (λ c. omega arith)
     plane-of-requires-2
-    mul-end
-    array-read-end
+    (λ c. omega arith)
+    (λ c. omega arith)
     add-end
     array-share-prefix-locator
     slice-aggregate-weighted-errors
@@ -201,11 +174,11 @@ errors-at-places-spec =
     slice-aggregate-weighted-errors-3
     slice-aggregate-weighted-errors-4
     weighted-errors-requires
-    add-if1
+    (λ c. omega arith)
     slice-aggregate-count-wrong
     count-wrong-requires
     returns
-    add-p
-    loop-less
+    (λ c. omega arith)
+    (λ c. omega arith)
     loop-again
     returns-2)

@@ -24,9 +24,6 @@ start i = i .before .before .before
 loop-holds : tie.Need-loop-holds Inv-loop μ-loop
 loop-holds c = (omega arith, locators-none _ _ _ _ _ refl refl refl)
 
-plane-of-requires : tie.Need-plane-of-requires Inv-loop μ-loop
-plane-of-requires c κs = omega arith
-
 array-share-prefix-plane : tie.Need-array-share-prefix-plane Inv-loop μ-loop
 array-share-prefix-plane c = omega (arith, c .plane-of .ensures .long)
 
@@ -47,9 +44,6 @@ returns c =
     locators-refused _ _ _ _ _ _ _ _ (i .loop-test .taken) (c .if1 .taken)
     (taken-locator _ (s .args .count) _ _ _ (omega arith) (o .before .before .plane-of .ensures) (o .locate .ensures))
 
-add-end : tie.Need-add-end Inv-loop μ-loop
-add-end c = omega arith
-
 slice-aggregate-put-plane : tie.Need-slice-aggregate-put-plane Inv-loop μ-loop
 slice-aggregate-put-plane c = let o = c .before .before .before in omega (arith, turn o .before .loop .inv .1 .long)
 
@@ -67,17 +61,8 @@ put-plane-requires c κs =
     let long = length-take-le (r .result .size + 1) (r .result .locator) (omega (arith, r .ensures .locator .long, passed .if1 .left)) in
     (omega (arith, i .loop-test .taken), omega (arith, passed .if1 .left), omega (arith, i .before .loop .inv .1 .long, passed .if1 .left))
 
-mul-sizes : tie.Need-mul-sizes Inv-loop μ-loop
-mul-sizes c = omega arith
-
 array-write-sizes : tie.Need-array-write-sizes Inv-loop μ-loop
 array-write-sizes c = let passed = c .before .before .before .before .before in omega (arith, turn (passed .before) .loop-test .taken)
-
-add-p : tie.Need-add-p Inv-loop μ-loop
-add-p c = omega arith
-
-loop-less : tie.Need-loop-less Inv-loop μ-loop
-loop-less c = omega arith
 
 loop-again : tie.Need-loop-again Inv-loop μ-loop
 loop-again c =
@@ -100,19 +85,19 @@ locate-all-spec =
     Inv-loop
     μ-loop
     loop-holds
-    plane-of-requires
+    (λ c κs. omega arith)
     array-share-prefix-plane
     slice-aggregate-locate
     locate-requires
     returns
-    add-end
+    (λ c. omega arith)
     slice-aggregate-put-plane
     array-share-prefix-locator
     slice-aggregate-put-plane-2
     put-plane-requires
-    mul-sizes
+    (λ c. omega arith)
     array-write-sizes
-    add-p
-    loop-less
+    (λ c. omega arith)
+    (λ c. omega arith)
     loop-again
     returns-2)

@@ -17,18 +17,6 @@ abbrev μ-loop : tie.MeasureT-loop
 loop-holds : tie.Need-loop-holds Inv-loop μ-loop
 loop-holds c = (omega arith, λ q h. absurd (omega arith), λ k h. omega arith)
 
-mul-degree : tie.Need-mul-degree Inv-loop μ-loop
-mul-degree c = omega arith
-
-array-read-degree : tie.Need-array-read-degree Inv-loop μ-loop
-array-read-degree c = omega arith
-
-add-p : tie.Need-add-p Inv-loop μ-loop
-add-p c = omega arith
-
-loop-less : tie.Need-loop-less Inv-loop μ-loop
-loop-less c = omega arith
-
 loop-again : tie.Need-loop-again Inv-loop μ-loop
 loop-again c =
     let l = c .before .before .loop in
@@ -46,9 +34,9 @@ longest-spec =
     Inv-loop
     μ-loop
     loop-holds
-    mul-degree
-    array-read-degree
-    add-p
-    loop-less
+    (λ c. omega arith)
+    (λ c. omega arith)
+    (λ c. omega arith)
+    (λ c. omega arith)
     loop-again
     returns)

@@ -21,21 +21,12 @@ start l = let o = l .before .before .before .before .before in o .before .before
 locators : (l : tie.After-longest) → let a = start l .args in let r = l .before .before .before .before .before .locate-all .result in Locators (a .planes) (2 * a .t) (a .t) (a .sums .now) (r .sizes) (r .rows)
 locators l = all-located _ _ _ _ _ _ _ (not-false _ (l .before .before .before .if1 .left)) (l .before .before .before .before .before .locate-all .ensures)
 
-mul-count : tie.Need-mul-count
-mul-count c = search needs
-
-locate-all-requires : tie.Need-locate-all-requires
-locate-all-requires c κs = search needs
-
 returns : tie.Need-returns
 returns c = not-located _ _ _ _ _ _ _ _ (not-true _ (c .if1 .taken)) (c .before .before .locate-all .ensures)
 
 longest-requires : tie.Need-longest-requires
 longest-requires c κs =
     (omega arith, all-located _ _ _ _ _ _ _ (not-false _ (c .before .before .if1 .left)) (c .before .before .before .before .locate-all .ensures) .many)
-
-slice-aggregate-evaluate-all : tie.Need-slice-aggregate-evaluate-all
-slice-aggregate-evaluate-all c = search needs
 
 add-evaluate-all : tie.Need-add-evaluate-all
 add-evaluate-all c = let l = c .before in omega (arith, l .longest .ensures .least (start l .args .t) (locators l .small))
@@ -47,12 +38,6 @@ evaluate-all-requires c κs =
     let d = locators l in
     let most = l .longest .ensures .least (s .args .t) (d .small) in
     (s .pre .0 .0, omega (arith, d .long), omega arith, omega arith)
-
-slice-aggregate-errors-at-places : tie.Need-slice-aggregate-errors-at-places
-slice-aggregate-errors-at-places c = search needs
-
-slice-aggregate-errors-at-places-2 : tie.Need-slice-aggregate-errors-at-places-2
-slice-aggregate-errors-at-places-2 c = search needs
 
 errors-at-places-requires : tie.Need-errors-at-places-requires
 errors-at-places-requires c κs =
@@ -68,9 +53,6 @@ errors-at-places-requires c κs =
 
 returns-2 : tie.Need-returns-2
 returns-2 c = not-counted _ _ _ _ _ (not-true _ (c .if2 .taken)) (c .before .before .errors-at-places .ensures)
-
-slice-aggregate-leaves-nothing : tie.Need-slice-aggregate-leaves-nothing
-slice-aggregate-leaves-nothing c = search needs
 
 leaves-nothing-requires : tie.Need-leaves-nothing-requires
 leaves-nothing-requires c κs =
@@ -92,17 +74,17 @@ pub search-errors-spec : {M : Type 1} → statement M
 search-errors-spec =
     tie.close
     (tie.spec
-    mul-count
-    locate-all-requires
+    (λ c. search needs)
+    (λ c κs. search needs)
     returns
     longest-requires
-    slice-aggregate-evaluate-all
+    (λ c. search needs)
     add-evaluate-all
     evaluate-all-requires
-    slice-aggregate-errors-at-places
-    slice-aggregate-errors-at-places-2
+    (λ c. search needs)
+    (λ c. search needs)
     errors-at-places-requires
     returns-2
-    slice-aggregate-leaves-nothing
+    (λ c. search needs)
     leaves-nothing-requires
     returns-3)

@@ -14,9 +14,6 @@ Inv-loop powers logarithms sums n t size count weighted₀ p₀ weighted p = (p 
 abbrev μ-loop : tie.MeasureT-loop
 μ-loop powers logarithms sums n t size count weighted₀ p₀ weighted p = size - p
 
-mul-count : tie.Need-mul-count Inv-loop μ-loop
-mul-count c = omega arith
-
 loop-holds : tie.Need-loop-holds Inv-loop μ-loop
 loop-holds c = (omega arith, explains-none _ _ _ refl refl)
 
@@ -24,29 +21,8 @@ single-place-requires : tie.Need-single-place-requires Inv-loop μ-loop
 single-place-requires c κs =
     let s = c .before .before .before in (s .pre .0, (omega arith, omega arith, omega arith, omega arith, omega arith, omega arith))
 
-add-if1 : tie.Need-add-if1 Inv-loop μ-loop
-add-if1 c = omega arith
-
 returns : tie.Need-returns Inv-loop μ-loop
 returns c = λ e. absurd (let z : _≡_ {A = ℕ} 0 1 = cc in omega arith)
-
-shared-slice-read-weighted : tie.Need-shared-slice-read-weighted Inv-loop μ-loop
-shared-slice-read-weighted c = omega arith
-
-mul-weighted : tie.Need-mul-weighted Inv-loop μ-loop
-mul-weighted c = omega arith
-
-add-weighted : tie.Need-add-weighted Inv-loop μ-loop
-add-weighted c = omega arith
-
-array-write-weighted : tie.Need-array-write-weighted Inv-loop μ-loop
-array-write-weighted c = omega arith
-
-add-p : tie.Need-add-p Inv-loop μ-loop
-add-p c = omega arith
-
-loop-less : tie.Need-loop-less Inv-loop μ-loop
-loop-less c = omega arith
 
 loop-again : tie.Need-loop-again Inv-loop μ-loop
 unfolding settings check-count
@@ -68,16 +44,16 @@ single-errors-spec =
     (tie.spec
     Inv-loop
     μ-loop
-    mul-count
+    (λ c. omega arith)
     loop-holds
     single-place-requires
-    add-if1
+    (λ c. omega arith)
     returns
-    shared-slice-read-weighted
-    mul-weighted
-    add-weighted
-    array-write-weighted
-    add-p
-    loop-less
+    (λ c. omega arith)
+    (λ c. omega arith)
+    (λ c. omega arith)
+    (λ c. omega arith)
+    (λ c. omega arith)
+    (λ c. omega arith)
     loop-again
     returns-2)
