@@ -2,7 +2,7 @@
 -- the vector of their errors is the zeros repaired; and where the checks are the same, the zeros need no repair. Assumes nothing.
 use mathlib.Core.Path.{_≡_, refl, sym, _∙_, ap, ap₂}
 use mathlib.Core.Bool.{Bool, true, false}
-use mathlib.Core.List.{List, [], _∷_, _++_}
+use mathlib.Core.List.{List, _++_}
 use mathlib.Core.Logic.{inl, inr}
 use Prim.Native.Nat.{ℕ, zero, suc, _+_, _*_, _-_, _≤_, _<_}
 use native.Mathlib.Omega.{arith}
@@ -11,16 +11,15 @@ use lib.Seq.{take-all, ext-getD, getD-append-add, getD-drop}
 use native.Mathlib.Decide.{decLt}
 use Rattle.code.specs.Size.{row-width, place-rows}
 use Rattle.code.specs.Steps.Array.{Written}
-use Rattle.field.proofs.Xor.{plus-zero}
 use Rattle.code.specs.Settings.{Settings, settings, settings-refusal, check-count, value-size}
-use Rattle.code.specs.Polynomial.{root, added}
-use Rattle.code.specs.Plane.{syndrome, is-codeword}
+use Rattle.code.specs.Polynomial.{root}
+use Rattle.code.specs.Plane.{is-codeword}
 use Rattle.code.specs.Vector.{plane, cut, glued}
 use Rattle.code.specs.Entry.{values-in, in-front}
 use Rattle.code.specs.Steps.Lanes.{in-row, lane}
 use Rattle.code.proofs.Lists.Bytes.{Bytes, bytes-zeros}
 use Rattle.code.proofs.Vectors.Cut.{cut-length, cut-values, glued-cut}
-use Rattle.code.proofs.Vectors.Lane.{lane-length, lane-at, lane-zeros, lane-bytes}
+use Rattle.code.proofs.Vectors.Lane.{lane-length, lane-zeros}
 use Rattle.code.proofs.Codewords.Near.{differ-self}
 use Rattle.code.proofs.Vectors.Planes.{Values, plane-length, plane-bytes, vector-back}
 use Rattle.code.proofs.ValidSettings.{sizes}
@@ -28,36 +27,14 @@ use Rattle.code.proofs.Codewords.Word.{word-back}
 use Rattle.locator.specs.Errors.{mended}
 use Rattle.repair.specs.Difference.{plus-values, zeros}
 use Rattle.repair.specs.Entry.{Done-by, none-found}
-use Rattle.sums.specs.Rows.{Values-added, Check-sums, Zeros-as}
+use Rattle.sums.specs.Rows.{Values-added, Zeros-as}
 use Rattle.repair.specs.Steps.Columns.{column-errors}
 use Rattle.repair.specs.Steps.Planes.{Decoded-as}
-use Rattle.sums.proofs.Sums.CheckRows.{values-lane, spare-lane}
-use Rattle.sums.proofs.Sums.CheckSums.{syndrome-zeros, summed-zeros, check-sums-syndrome, check-sums-spare}
+use Rattle.sums.proofs.Sums.CheckRows.{values-lane}
+use Rattle.sums.proofs.Sums.CheckSums.{syndrome-zeros, summed-zeros}
 use Rattle.locator.proofs.Decoder.{mended-zeros}
-use Rattle.repair.proofs.Located.{column-errors-vector, column-errors-plane}
-use Rattle.repair.proofs.OwnVector.{plane-plus, plane-zeros, plus-values-length, plus-values-values}
-
--- values of zero bytes, added to a vector
-zero-values : (n w : ℕ) → Values w (replicate n (replicate w 0))
-zero-values zero w = tt
-zero-values (suc n) w = (length-replicate w 0, bytes-zeros w, zero-values n w)
-
-added-zeros : (w : ℕ) (us : List ℕ) → length us ≡ w → Bytes us → added us (replicate w 0) ≡ us
-unfolding added
-added-zeros zero [] e b = refl
-added-zeros zero (u ∷ us) e b = absurd (omega arith)
-added-zeros (suc w) [] e b = absurd (omega arith)
-added-zeros (suc w) (u ∷ us) e b = ap₂ _∷_ (plus-zero u (b .0)) (added-zeros w us (omega arith) (b .1))
-
-plus-zero-values : (n w : ℕ) (vs : List (List ℕ)) → length vs ≡ n → Values w vs → plus-values vs (replicate n (replicate w 0)) ≡ vs
-unfolding plus-values
-plus-zero-values zero w [] e v = refl
-plus-zero-values zero w (x ∷ vs) e v = absurd (omega arith)
-plus-zero-values (suc n) w [] e v = absurd (omega arith)
-plus-zero-values (suc n) w (x ∷ vs) e v = ap₂ _∷_ (added-zeros w x (v .0) (v .1)) (plus-zero-values n w vs (omega arith) (v .2))
-
-plus-zeros : (n w : ℕ) (vector : List ℕ) → length vector ≡ n * w → Bytes vector → plus-values (cut n w vector) (replicate n (replicate w 0)) ≡ cut n w vector
-plus-zeros n w vector l b = plus-zero-values n w (cut n w vector) (cut-length n w vector) (cut-values n w vector (omega arith) b)
+use Rattle.repair.proofs.ColumnErrors.{column-errors-vector, column-errors-plane}
+use Rattle.repair.proofs.Difference.Values.{zero-values, plus-zeros, plane-plus, plane-zeros, plus-values-length, plus-values-values}
 
 glued-whole : (n w : ℕ) (vector : List ℕ) → length vector ≡ n * w → glued (cut n w vector) ≡ vector
 glued-whole n w vector l = glued-cut n w vector (omega arith) ∙ take-all (n * w) vector (omega arith)

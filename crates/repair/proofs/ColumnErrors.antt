@@ -1,6 +1,7 @@
 -- The errors of the columns added to a vector, value by value: one more column is one more value behind those before it, in the
 -- values that bytes are cut into, in their sum with the errors, and in the bytes that they are glued to. So what a loop over the
--- columns writes is the vector and its errors, glued, in front of the output. Assumes nothing.
+-- columns writes is the vector and its errors, glued, in front of the output; and in each plane the errors of the columns are the
+-- bytes of its weighted errors. Assumes nothing.
 use mathlib.Core.Path.{_≡_, refl, sym, _∙_, ap, ap₂}
 use mathlib.Core.List.{List, [], _∷_, _++_, append-assoc, append-nil}
 use Prim.Native.Nat.{ℕ, zero, suc, _+_, _*_, _-_, _<_, _≤_}
@@ -8,7 +9,7 @@ use native.Mathlib.Omega.{arith}
 use native.Mathlib.Nat.{suc-mul}
 use native.Mathlib.Numerals.{add-one}
 use lib.ListN.{length, getD, take, drop, length-append, length-drop}
-use lib.Seq.{length-take-le, getD-take, take-at, drop-at, drop-drop, ext-getD}
+use lib.Seq.{length-take-le, getD-take, take-at, drop-at, drop-drop, ext-getD, getD-drop}
 use Rattle.field.specs.Field.{plus, times, power, inverse}
 use Rattle.field.proofs.Xor.{plus-zero}
 use Rattle.field.proofs.Times.{times-zero}
@@ -16,7 +17,7 @@ use Rattle.field.proofs.Power.{power-lt}
 use Rattle.code.specs.Size.{row-width}
 use Rattle.code.specs.Steps.Array.{Filled, Written}
 use Rattle.code.specs.Polynomial.{first-exponent, added, scaled}
-use Rattle.code.specs.Vector.{cut, glued}
+use Rattle.code.specs.Vector.{cut, glued, plane, is-vector}
 use Rattle.code.specs.Entry.{in-front}
 use Rattle.code.proofs.Lists.Bytes.{Bytes, bytes-take, bytes-drop}
 use Rattle.code.proofs.Polynomials.Arithmetic.{getD-added, getD-scaled, length-added, length-scaled, bytes-scaled}
@@ -25,6 +26,16 @@ use Rattle.repair.specs.Difference.{plus-values}
 use Rattle.repair.specs.Steps.Columns.{column-errors}
 use Rattle.code.proofs.Lists.Part.{part-long}
 use Rattle.sums.proofs.AllPlaces.Powers.{weight-inverse}
+use mathlib.Core.Bool.{true}
+use Rattle.field.proofs.Logarithm.{times-comm}
+use Rattle.field.proofs.Division.{inverse-lt}
+use Rattle.code.specs.Settings.{Settings, check-count, value-size}
+use Rattle.code.specs.Steps.Lanes.{in-row, lane}
+use Rattle.code.proofs.Vectors.Planes.{Values, vector-back, plane-length}
+use Rattle.locator.specs.Locator.{value}
+use Rattle.locator.specs.Errors.{error-byte, Error-bytes}
+use Rattle.code.proofs.Vectors.Lane.{lane-at}
+use Rattle.locator.proofs.Errors.Places.{place-exponent-column}
 
 -- one more value
 cut-more : (k w : ℕ) (bs : List ℕ) → cut (suc k) w bs ≡ cut k w bs ++ (take w (drop (k * w) bs) ∷ [])
@@ -190,3 +201,47 @@ pub mended-whole :
 unfolding mended-front in-front
 mended-whole n at k w vs ys output now e m =
     m .bytes ∙ ap (λ (i : ℕ). mended-front k w vs ys ++ drop i output) (sym (m .long)) ∙ ap (λ (i : ℕ). in-front (mended-front i w vs ys) output) e
+
+-- the errors of the columns: a vector, and its planes
+column-errors-values : (n k w : ℕ) (ys : List ℕ) → w ≤ row-width → row-width * n ≤ length ys → Values w (column-errors n k w ys)
+unfolding column-errors
+column-errors-values zero k w ys h l = tt
+column-errors-values (suc n) k w ys h l = (
+  length-scaled _ (take w ys) ∙ length-take-le w ys (omega arith),
+  bytes-scaled _ (take w ys),
+  column-errors-values n (suc k) w (drop row-width ys) h (omega (arith, length-drop row-width ys)),
+)
+
+pub column-errors-vector :
+    (s : Settings) (ys : List ℕ) → value-size s ≤ row-width → row-width * s .n ≤ length ys → is-vector s (column-errors (s .n) 0 (value-size s) ys) ≡ true
+column-errors-vector s ys h l =
+    vector-back s (column-errors (s .n) 0 (value-size s) ys)
+    (record { many = column-errors-length (s .n) 0 (value-size s) ys; values = column-errors-values (s .n) 0 (value-size s) ys h l })
+
+column-errors-at :
+    (n k w : ℕ) (ys : List ℕ) (p j : ℕ) → p < w → j < n →
+    getD (plane p (column-errors n k w ys)) j 0 ≡ times (inverse (power 2 (first-exponent * (254 - (k + j))))) (getD ys (in-row j p) 0)
+unfolding column-errors plane
+column-errors-at zero k w ys p j h l = absurd (omega arith)
+column-errors-at (suc n) k w ys p zero h l =
+    getD-scaled (inverse (power 2 (first-exponent * (254 - k)))) (take w ys) p (inverse-lt _)
+    ∙ ap₂ (λ (i b : ℕ). times (inverse (power 2 (first-exponent * (254 - i)))) b) (let e : k ≡ k + 0 = omega arith in e)
+    (getD-take w ys p 0 h ∙ ap (λ (i : ℕ). getD ys i 0) (let e : p ≡ in-row 0 p = omega arith in e))
+column-errors-at (suc n) k w ys p (suc j) h l =
+    column-errors-at n (suc k) w (drop row-width ys) p j h (omega arith)
+    ∙ ap₂ (λ (i b : ℕ). times (inverse (power 2 (first-exponent * (254 - i)))) b) (let e : suc k + j ≡ k + suc j = omega arith in e)
+    (getD-drop row-width ys (in-row j p) 0 ∙ ap (λ (i : ℕ). getD ys i 0) (let e : row-width + (in-row j p) ≡ in-row (suc j) p = omega arith in e))
+
+pub column-errors-plane :
+    (s : Settings) (p many : ℕ) (ys : List ℕ) → p < value-size s → s .n ≤ many → ((i : ℕ) → getD ys i 0 < 256) →
+    Error-bytes s (lane p many ys) (plane p (column-errors (s .n) 0 (value-size s) ys))
+unfolding error-byte
+column-errors-plane s p many ys h l byte =
+    record {
+      many = plane-length p (column-errors (s .n) 0 (value-size s) ys) ∙ column-errors-length (s .n) 0 (value-size s) ys;
+      each = λ j g.
+          column-errors-at (s .n) 0 (value-size s) ys p j h g
+          ∙ times-comm (inverse (power 2 (first-exponent * (254 - (0 + j))))) (getD ys (in-row j p) 0) (inverse-lt _) (byte _)
+          ∙ ap₂ (λ (y i : ℕ). times y (inverse (power 2 (first-exponent * i)))) (sym (lane-at p many ys j (omega arith)))
+          ((let e : 254 - (0 + j) ≡ 254 - j = omega arith in e) ∙ sym (place-exponent-column (s .n) (check-count s) j g));
+    }

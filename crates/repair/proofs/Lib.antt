@@ -1,12 +1,5 @@
-pub mod OwnVector
-pub mod ByOwnChecks
+pub mod Difference
 pub mod ColumnErrors
-pub mod Located
-pub mod PlaneLocators
-pub mod PlaneErrors
-pub mod PlaneDecoder
-pub mod OneError
-pub mod Decoding
+pub mod AllPlanes
 pub mod Answer
 pub mod Entry
-pub mod OwnChecks

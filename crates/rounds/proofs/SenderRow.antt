@@ -23,7 +23,7 @@ use Rattle.code.proofs.Vectors.Cut.{cut-length, cut-values, value-fits}
 use Rattle.code.proofs.ValidSettings.{values-fit, sizes}
 use Rattle.code.proofs.Vectors.Planes.{vector-of, values-back}
 use Rattle.repair.specs.Entry.{Done, Done-by, repair-refusal, repair-by-refusal, Repair-by-as, Repair-by-says, By-own-checks}
-use Rattle.repair.proofs.ByOwnChecks.{by-own-checks}
+use Rattle.repair.proofs.Difference.ByOwnChecks.{by-own-checks}
 use Rattle.grading.specs.Value.{blank, blanks}
 use Rattle.grading.proofs.Value.{take-replicate}
 use Rattle.counting.proofs.Placed.{cut-at}

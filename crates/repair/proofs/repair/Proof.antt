@@ -13,8 +13,8 @@ use Rattle.code.specs.Entry.{values-in}
 use Rattle.code.proofs.Lists.Bytes.{bytes-every}
 use Rattle.code.proofs.ValidSettings.{check-room, sizes}
 use Rattle.repair.specs.Entry.{By-own-checks}
-use Rattle.repair.proofs.ByOwnChecks.{by-own-checks}
-use Rattle.repair.proofs.OwnChecks.{own-checks, is-vector-in, are-checks-in}
+use Rattle.repair.proofs.Difference.ByOwnChecks.{by-own-checks}
+use Rattle.repair.proofs.Difference.OwnChecks.{own-checks, is-vector-in, are-checks-in}
 use Rattle.repair.proofs.Entry.{Accepted, accepted, repair-refused, repair-done}
 use borrow.Author.Needs.{needs}
 use Rattle.repair.proofs.repair.Statement.{statement}

@@ -1,10 +1,10 @@
 -- `decode` meets its contract: one error in each plane explains the sums, or the search decides. Assumes nothing.
 use Prim.Native.Nat.{_+_, _*_, _≤_}
 use native.Mathlib.Omega.{arith}
-use Rattle.code.specs.Size.{most-columns, row-width}
-use Rattle.code.specs.Settings.{Settings, settings, check-count}
+use Rattle.code.specs.Size.{most-columns}
+use Rattle.code.specs.Settings.{settings, check-count}
 use Rattle.code.proofs.ValidSettings.{sizes}
-use Rattle.repair.proofs.Decoding.{sums-spare, decoded-single, decoded-searched}
+use Rattle.repair.proofs.AllPlanes.Decoding.{sums-spare, decoded-single, decoded-searched}
 use borrow.Author.Needs.{needs}
 use Rattle.repair.proofs.planes.decode.Statement.{statement}
 use Rattle.repair.proofs.planes.decode.Tie as tie

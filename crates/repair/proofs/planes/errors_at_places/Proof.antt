@@ -8,8 +8,8 @@ use Rattle.code.specs.Settings.{settings, check-count}
 use Rattle.code.specs.Steps.Lanes.{lane}
 use Rattle.locator.specs.Errors.{wrong-places}
 use Rattle.repair.specs.Steps.Planes.{Weighted, Counted-as}
-use Rattle.repair.proofs.Located.{locator-values}
-use Rattle.repair.proofs.PlaneErrors.{lane-locator, weighted-none, weighted-more, counted-more}
+use Rattle.repair.proofs.AllPlanes.Rows.{locator-values}
+use Rattle.repair.proofs.AllPlanes.Errors.{lane-locator, weighted-none, weighted-more, counted-more}
 use Rattle.repair.proofs.planes.errors_at_places.Statement.{statement}
 use Rattle.repair.proofs.planes.errors_at_places.Tie as tie
 

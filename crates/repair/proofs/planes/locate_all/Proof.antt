@@ -4,7 +4,7 @@ use Prim.Native.Nat.{_+_, _-_, _≤_}
 use native.Mathlib.Omega.{arith}
 use lib.Seq.{length-take-le}
 use Rattle.repair.specs.Steps.Planes.{Locators}
-use Rattle.repair.proofs.PlaneLocators.{taken-locator, locators-none, locators-more, locators-found, locators-refused}
+use Rattle.repair.proofs.AllPlanes.Locators.{taken-locator, locators-none, locators-more, locators-found, locators-refused}
 use Rattle.repair.proofs.planes.locate_all.Statement.{statement}
 use Rattle.repair.proofs.planes.locate_all.Tie as tie
 

@@ -5,7 +5,7 @@ use native.Mathlib.Omega.{arith}
 use borrow.Author.Tests.{not-true, not-false}
 use Rattle.code.specs.Settings.{settings, check-count}
 use Rattle.repair.specs.Steps.Planes.{Locators}
-use Rattle.repair.proofs.PlaneDecoder.{all-located, not-located, all-evaluated, all-counted, not-counted, searched}
+use Rattle.repair.proofs.AllPlanes.Search.{all-located, not-located, all-evaluated, all-counted, not-counted, searched}
 use borrow.Author.Needs.{needs}
 use Rattle.repair.proofs.planes.search_errors.Statement.{statement}
 use Rattle.repair.proofs.planes.search_errors.Tie as tie

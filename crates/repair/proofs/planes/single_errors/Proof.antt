@@ -4,7 +4,7 @@ use Prim.Native.Nat.{ℕ, _-_, _≤_}
 use native.Mathlib.Omega.{arith}
 use Rattle.code.specs.Settings.{settings, check-count}
 use Rattle.repair.specs.Steps.Planes.{Explains}
-use Rattle.repair.proofs.OneError.{explains-none, explains-more, explains-whole}
+use Rattle.repair.proofs.AllPlanes.OneError.{explains-none, explains-more, explains-whole}
 use Rattle.repair.proofs.planes.single_errors.Statement.{statement}
 use Rattle.repair.proofs.planes.single_errors.Tie as tie
 

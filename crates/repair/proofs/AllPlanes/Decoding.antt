@@ -1,12 +1,12 @@
 -- From sums to codewords. The sums of the difference are the syndromes of its planes: errors that explain them are those of the
 -- codeword near, and a plane that does not decode has none near. Assumes nothing.
-use mathlib.Core.Path.{_≡_, refl, sym, _∙_}
+use mathlib.Core.Path.{_≡_, refl, _∙_}
 use mathlib.Core.Bool.{Bool, true, false}
 use mathlib.Core.List.{List}
 use Prim.Native.Nat.{ℕ, _+_, _≤_, _<_}
 use native.Mathlib.Omega.{arith}
-use lib.ListN.{length, getD, replicate}
-use Rattle.code.specs.Size.{row-width, place-rows}
+use lib.ListN.{getD, replicate}
+use Rattle.code.specs.Size.{row-width}
 use Rattle.code.specs.Settings.{Settings, settings-refusal, check-count}
 use Rattle.code.specs.Plane.{syndrome}
 use Rattle.code.specs.Steps.Lanes.{in-row, lane}

@@ -20,8 +20,8 @@ use Rattle.sums.specs.Places.{Place-powers}
 use Rattle.locator.specs.Plane.{Lane-written}
 use Rattle.repair.specs.Steps.Planes.{plane-sums, Locators, Weighted}
 use Rattle.locator.proofs.Locator.Held.{massey-fitting}
-use Rattle.repair.proofs.Located.{lane-located, lane-kept}
-use Rattle.repair.proofs.PlaneLocators.{plane-taken}
+use Rattle.repair.proofs.AllPlanes.Rows.{lane-located, lane-kept}
+use Rattle.repair.proofs.AllPlanes.Locators.{plane-taken}
 use Rattle.locator.proofs.Rows.Lanes.{lane-written-to}
 use Rattle.locator.proofs.Polynomials.Steps.{value-lt}
 

@@ -1,76 +1,23 @@
 -- From the zero vector to the own one. Moved by the own vector with its check values, the zero bytes with the difference of the
 -- check values become the own vector with the check values received, plane by plane, and back. So what repairs the one repairs
 -- the other, and where the one has no repair neither has the other. Assumes nothing.
-use mathlib.Core.Path.{_≡_, refl, sym, _∙_, ap, ap₂, subst₂}
+use mathlib.Core.Path.{_≡_, sym, _∙_, ap, subst₂}
 use mathlib.Core.Bool.{true}
-use mathlib.Core.List.{List, [], _∷_}
-use Prim.Native.Nat.{ℕ, zero, suc, _<_}
-use native.Mathlib.Omega.{arith}
+use mathlib.Core.List.{List}
+use Prim.Native.Nat.{ℕ, _<_}
 use lib.Dec.{eqb}
 use lib.ListN.{length, replicate, length-replicate}
 use borrow.Author.Tests.{eqb-true}
-use Rattle.field.proofs.Xor.{plus-self, plus-zero, plus-again}
 use Rattle.code.specs.Settings.{Settings, check-count, value-size}
 use Rattle.code.specs.Polynomial.{added}
 use Rattle.code.specs.Vector.{plane, each-long, is-vector, are-checks, has-checks}
 use Rattle.code.specs.Repair.{Near, Repaired, No-repair}
-use Rattle.code.proofs.Lists.Bytes.{Bytes, zeros-at}
+use Rattle.code.proofs.Lists.Bytes.{Bytes}
 use Rattle.code.proofs.Lists.Tests.{and-split}
-use Rattle.code.proofs.Polynomials.Arithmetic.{length-added, bytes-added, getD-added}
 use Rattle.code.proofs.Vectors.Planes.{Values, values-of, Vector, vector-of, vector-back, Checked, checked-of, plane-length, plane-bytes}
 use Rattle.code.proofs.Codewords.Linear.{near-plus}
 use Rattle.repair.specs.Difference.{plus-values, zeros}
-
--- sums of bytes with zeros, with themselves, and twice with the same bytes
-added-zeros : (n : ℕ) (vs : List ℕ) → length vs ≡ n → Bytes vs → added vs (replicate n 0) ≡ vs
-unfolding added
-added-zeros zero [] e b = refl
-added-zeros (suc n) [] e b = absurd (omega arith)
-added-zeros zero (v ∷ vs) e b = absurd (omega arith)
-added-zeros (suc n) (v ∷ vs) e b = ap₂ _∷_ (plus-zero v (b .0)) (added-zeros n vs (omega arith) (b .1))
-
-added-self : (vs : List ℕ) → added vs vs ≡ replicate (length vs) 0
-unfolding added
-added-self [] = refl
-added-self (v ∷ vs) = ap₂ _∷_ (plus-self v) (added-self vs)
-
-added-again : (vs cs : List ℕ) → length vs ≡ length cs → Bytes cs → added vs (added vs cs) ≡ cs
-unfolding added
-added-again [] [] e b = refl
-added-again [] (c ∷ cs) e b = absurd (omega arith)
-added-again (v ∷ vs) [] e b = absurd (omega arith)
-added-again (v ∷ vs) (c ∷ cs) e b =
-    ap₂ _∷_ (plus-again v c (b .0)) (added-again vs cs (omega arith) (b .1))
-
--- values and their planes
-pub plus-values-length : (vs us : List (List ℕ)) → length vs ≡ length us → length (plus-values vs us) ≡ length vs
-unfolding plus-values
-plus-values-length [] [] e = refl
-plus-values-length [] (u ∷ us) e = absurd (omega arith)
-plus-values-length (v ∷ vs) [] e = refl
-plus-values-length (v ∷ vs) (u ∷ us) e = ap suc (plus-values-length vs us (omega arith))
-
-pub plus-values-values : (w : ℕ) (vs us : List (List ℕ)) → Values w vs → Values w us → Values w (plus-values vs us)
-unfolding plus-values
-plus-values-values w [] us a b = b
-plus-values-values w (v ∷ vs) [] a b = a
-plus-values-values w (v ∷ vs) (u ∷ us) a b =
-    (length-added v u (omega arith) ∙ a .0, bytes-added v u (a .1) (b .1), plus-values-values w vs us (a .2) (b .2))
-
-pub plane-plus : (p w : ℕ) (vs us : List (List ℕ)) → Values w vs → Values w us → plane p (plus-values vs us) ≡ added (plane p vs) (plane p us)
-unfolding plane plus-values added
-plane-plus p w [] us a b = refl
-plane-plus p w (v ∷ vs) [] a b = refl
-plane-plus p w (v ∷ vs) (u ∷ us) a b = ap₂ _∷_ (getD-added v u p (a .1) (b .1)) (plane-plus p w vs us (a .2) (b .2))
-
-plane-replicate : (p n w : ℕ) → plane p (replicate n (replicate w 0)) ≡ replicate n 0
-unfolding plane
-plane-replicate p zero w = refl
-plane-replicate p (suc n) w = ap₂ _∷_ (zeros-at w p) (plane-replicate p n w)
-
-pub plane-zeros : (s : Settings) (p : ℕ) → plane p (zeros s) ≡ replicate (s .n) 0
-unfolding zeros
-plane-zeros s p = plane-replicate p (s .n) (value-size s)
+use Rattle.repair.proofs.Difference.Values.{added-zeros, added-self, added-again, plus-values-length, plus-values-values, plane-plus, plane-zeros}
 
 -- the own vector vs with its check values, and check values cs received
 module _ (s : Settings) (vs own cs : List (List ℕ)) (e : is-vector s vs ≡ true) (f : has-checks s vs own ≡ true) (g : are-checks s cs ≡ true) where

@@ -2,7 +2,7 @@
 -- near the zeros and the difference is one near the vector and the checks received, less the vector's own. Assumes nothing.
 use mathlib.Core.Logic.{inl, inr}
 use Rattle.repair.specs.Entry.{Done, Done-by, By-own-checks}
-use Rattle.repair.proofs.OwnVector.{repaired-plus, no-repair-plus}
+use Rattle.repair.proofs.Difference.OwnVector.{repaired-plus, no-repair-plus}
 
 pub by-own-checks : By-own-checks
 unfolding By-own-checks Done Done-by

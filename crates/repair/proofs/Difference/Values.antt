@@ -1,0 +1,82 @@
+-- Values added byte by byte: with zeros, with themselves, twice with the same bytes; and a plane of the sum is the sum of the planes.
+-- Assumes nothing.
+use mathlib.Core.Path.{_≡_, refl, _∙_, ap, ap₂}
+use mathlib.Core.List.{List, [], _∷_}
+use Prim.Native.Nat.{ℕ, zero, suc, _*_, _-_}
+use native.Mathlib.Omega.{arith}
+use lib.ListN.{length, replicate, length-replicate}
+use Rattle.field.proofs.Xor.{plus-self, plus-zero, plus-again}
+use Rattle.code.specs.Settings.{Settings, value-size}
+use Rattle.code.specs.Polynomial.{added}
+use Rattle.code.specs.Vector.{plane, cut}
+use Rattle.code.proofs.Lists.Bytes.{Bytes, zeros-at, bytes-zeros}
+use Rattle.code.proofs.Polynomials.Arithmetic.{length-added, bytes-added, getD-added}
+use Rattle.code.proofs.Vectors.Planes.{Values}
+use Rattle.repair.specs.Difference.{plus-values, zeros}
+use Rattle.code.proofs.Vectors.Cut.{cut-length, cut-values}
+
+-- sums of bytes with zeros, with themselves, and twice with the same bytes
+pub added-zeros : (n : ℕ) (vs : List ℕ) → length vs ≡ n → Bytes vs → added vs (replicate n 0) ≡ vs
+unfolding added
+added-zeros zero [] e b = refl
+added-zeros (suc n) [] e b = absurd (omega arith)
+added-zeros zero (v ∷ vs) e b = absurd (omega arith)
+added-zeros (suc n) (v ∷ vs) e b = ap₂ _∷_ (plus-zero v (b .0)) (added-zeros n vs (omega arith) (b .1))
+
+pub added-self : (vs : List ℕ) → added vs vs ≡ replicate (length vs) 0
+unfolding added
+added-self [] = refl
+added-self (v ∷ vs) = ap₂ _∷_ (plus-self v) (added-self vs)
+
+pub added-again : (vs cs : List ℕ) → length vs ≡ length cs → Bytes cs → added vs (added vs cs) ≡ cs
+unfolding added
+added-again [] [] e b = refl
+added-again [] (c ∷ cs) e b = absurd (omega arith)
+added-again (v ∷ vs) [] e b = absurd (omega arith)
+added-again (v ∷ vs) (c ∷ cs) e b =
+    ap₂ _∷_ (plus-again v c (b .0)) (added-again vs cs (omega arith) (b .1))
+
+-- values and their planes
+pub plus-values-length : (vs us : List (List ℕ)) → length vs ≡ length us → length (plus-values vs us) ≡ length vs
+unfolding plus-values
+plus-values-length [] [] e = refl
+plus-values-length [] (u ∷ us) e = absurd (omega arith)
+plus-values-length (v ∷ vs) [] e = refl
+plus-values-length (v ∷ vs) (u ∷ us) e = ap suc (plus-values-length vs us (omega arith))
+
+pub plus-values-values : (w : ℕ) (vs us : List (List ℕ)) → Values w vs → Values w us → Values w (plus-values vs us)
+unfolding plus-values
+plus-values-values w [] us a b = b
+plus-values-values w (v ∷ vs) [] a b = a
+plus-values-values w (v ∷ vs) (u ∷ us) a b =
+    (length-added v u (omega arith) ∙ a .0, bytes-added v u (a .1) (b .1), plus-values-values w vs us (a .2) (b .2))
+
+pub plane-plus : (p w : ℕ) (vs us : List (List ℕ)) → Values w vs → Values w us → plane p (plus-values vs us) ≡ added (plane p vs) (plane p us)
+unfolding plane plus-values added
+plane-plus p w [] us a b = refl
+plane-plus p w (v ∷ vs) [] a b = refl
+plane-plus p w (v ∷ vs) (u ∷ us) a b = ap₂ _∷_ (getD-added v u p (a .1) (b .1)) (plane-plus p w vs us (a .2) (b .2))
+
+plane-replicate : (p n w : ℕ) → plane p (replicate n (replicate w 0)) ≡ replicate n 0
+unfolding plane
+plane-replicate p zero w = refl
+plane-replicate p (suc n) w = ap₂ _∷_ (zeros-at w p) (plane-replicate p n w)
+
+pub plane-zeros : (s : Settings) (p : ℕ) → plane p (zeros s) ≡ replicate (s .n) 0
+unfolding zeros
+plane-zeros s p = plane-replicate p (s .n) (value-size s)
+
+-- values of zero bytes, added to a vector
+pub zero-values : (n w : ℕ) → Values w (replicate n (replicate w 0))
+zero-values zero w = tt
+zero-values (suc n) w = (length-replicate w 0, bytes-zeros w, zero-values n w)
+
+plus-zero-values : (n w : ℕ) (vs : List (List ℕ)) → length vs ≡ n → Values w vs → plus-values vs (replicate n (replicate w 0)) ≡ vs
+unfolding plus-values
+plus-zero-values zero w [] e v = refl
+plus-zero-values zero w (x ∷ vs) e v = absurd (omega arith)
+plus-zero-values (suc n) w [] e v = absurd (omega arith)
+plus-zero-values (suc n) w (x ∷ vs) e v = ap₂ _∷_ (added-zeros w x (v .0) (v .1)) (plus-zero-values n w vs (omega arith) (v .2))
+
+pub plus-zeros : (n w : ℕ) (vector : List ℕ) → length vector ≡ n * w → Bytes vector → plus-values (cut n w vector) (replicate n (replicate w 0)) ≡ cut n w vector
+plus-zeros n w vector l b = plus-zero-values n w (cut n w vector) (cut-length n w vector) (cut-values n w vector (omega arith) b)
