@@ -9,7 +9,7 @@ use Rattle.code.specs.Settings.{Settings}
 use Rattle.record.specs.Frame.{operand-size}
 use Rattle.record.specs.Record.{is-taken}
 use Rattle.record.specs.Refusal.{first-of, blank-refusal}
-use Rattle.bench_file.specs.Said.{Message, message, Said, with-own, with-message, is-good, message-of}
+use Rattle.bench_file.specs.Scenario.{Message, message, Scenario, with-own, with-message, is-good, message-of}
 
 -- the command byte; past the end of the file 0, which is no command
 unfoldable pub command-in : List ℕ → ℕ
@@ -41,7 +41,7 @@ no-message [] = true
 no-message (m ∷ ms) = false
 
 -- 19: unknown, out of order, as another group command or an own value behind a message, cut short, bytes after the end
-unfoldable pub form-refusal : Said → List ℕ → ℕ
+unfoldable pub form-refusal : Scenario → List ℕ → ℕ
 form-refusal f bs =
     let c = command-in bs in
     cond (not (is-known c)) 19
@@ -59,11 +59,11 @@ unfoldable pub is-column : Settings → (column : ℕ) → Bool
 is-column s k = leb 1 k && leb k (s .n)
 
 -- 20, of an own value: a column not 1 to n, a column owned twice
-unfoldable pub column-refusal : Said → (column : ℕ) → ℕ
+unfoldable pub column-refusal : Scenario → (column : ℕ) → ℕ
 column-refusal f k = cond (not (is-column (f .settings) k)) 20 (cond (is-good f k) 20 0)
 
 -- 20, of a message: a column not 1 to n, "from" a good one, "to" a bad one, the same message twice
-unfoldable pub message-refusal : Said → (round from to : ℕ) → ℕ
+unfoldable pub message-refusal : Scenario → (round from to : ℕ) → ℕ
 message-refusal f m k l =
     cond (not (is-column (f .settings) k)) 20
     (cond (not (is-column (f .settings) l)) 20
@@ -74,7 +74,7 @@ unfoldable pub checks-round-refusal : (command round : ℕ) → ℕ
 checks-round-refusal c m = cond (eqb c 3) (cond (eqb m 2 || eqb m 3) 0 20) 0
 
 -- 20: operand not allowed
-unfoldable pub operand-refusal : Said → List ℕ → ℕ
+unfoldable pub operand-refusal : Scenario → List ℕ → ℕ
 operand-refusal f bs =
     let c = command-in bs in
     let m = message-in (f .settings) bs in
@@ -83,14 +83,14 @@ operand-refusal f bs =
     (first-of (checks-round-refusal c (m .round) ∷ message-refusal f (m .round) (m .from) (m .to) ∷ [])))
 
 -- 6: own value blank
-unfoldable pub value-refusal : Said → List ℕ → ℕ
+unfoldable pub value-refusal : Scenario → List ℕ → ℕ
 value-refusal f bs = cond (eqb (command-in bs) 4) (blank-refusal (body-in (f .settings) bs)) 0
 
 -- where a command is turned down: 19, then 20, then 6; 0, it is not
-unfoldable pub command-refusal : Said → List ℕ → ℕ
+unfoldable pub command-refusal : Scenario → List ℕ → ℕ
 command-refusal f bs = first-of (form-refusal f bs ∷ operand-refusal f bs ∷ value-refusal f bs ∷ [])
 
 -- what is said after a command that is not turned down
-unfoldable pub after-command : Said → List ℕ → Said
+unfoldable pub after-command : Scenario → List ℕ → Scenario
 after-command f bs =
     cond (eqb (command-in bs) 4) (with-own f (getD bs 1 0) (body-in (f .settings) bs)) (with-message f (message-in (f .settings) bs))

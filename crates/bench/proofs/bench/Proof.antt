@@ -3,9 +3,9 @@ use mathlib.Core.Path.{refl, _∙_}
 use native.Mathlib.Omega.{arith}
 use borrow.Author.Needs.{needs}
 use Rattle.bench.specs.Entry.{listing-room}
-use Rattle.bench_file.specs.Places.{Places-of}
-use Rattle.bench.proofs.Text.{put-front}
-use Rattle.bench.proofs.Output.{answer-small, refused-printed, said-located, run-printed}
+use Rattle.bench_file.specs.Steps.Places.{Places-of}
+use Rattle.bench.proofs.Listing.Text.{put-front}
+use Rattle.bench.proofs.Listing.Output.{answer-small, refused-printed, parsed-located, run-printed}
 use Rattle.bench.proofs.bench.Statement.{statement}
 use Rattle.bench.proofs.bench.Tie as tie
 
@@ -40,11 +40,11 @@ returns-2 c =
 
 run-requires : tie.Need-run-requires
 unfolding Places-of
-run-requires c κs = let s = said-located _ _ _ _ (c .before .before .before .parse .ensures) (c .before .if2 .left) in (s .0, s .2)
+run-requires c κs = let s = parsed-located _ _ _ _ (c .before .before .before .parse .ensures) (c .before .if2 .left) in (s .0, s .2)
 
 put-listing-requires : tie.Need-put-listing-requires
 unfolding listing-room
-put-listing-requires c κs = let s = said-located _ _ _ _ (c .before .before .before .before .before .parse .ensures) (c .before .before .before .if2 .left) in ((_, s .0, s .2), omega (arith, c .before .before .before .before .before .before .if1 .left))
+put-listing-requires c κs = let s = parsed-located _ _ _ _ (c .before .before .before .before .before .parse .ensures) (c .before .before .before .if2 .left) in ((_, s .0, s .2), omega (arith, c .before .before .before .before .before .before .if1 .left))
 
 same-length-2 : tie.Need-same-length-2
 same-length-2 c = search needs
@@ -52,7 +52,7 @@ same-length-2 c = search needs
 returns-3 : tie.Need-returns-3
 unfolding listing-room
 returns-3 c =
-    let s = said-located _ _ _ _ (c .before .before .before .before .before .before .before .before .parse .ensures) (c .before .before .before .before .before .before .if2 .left) in
+    let s = parsed-located _ _ _ _ (c .before .before .before .before .before .before .before .before .parse .ensures) (c .before .before .before .before .before .before .if2 .left) in
     let ran = c .before .before .before .before .run .ensures (s .0) (s .2) in
     let put = c .before .before .put-listing .ensures _ (s .0) (s .2) (ran .finished) in
     record {

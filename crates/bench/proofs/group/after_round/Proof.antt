@@ -7,20 +7,20 @@ use Rattle.code.specs.Size.{most-columns}
 use Rattle.record.specs.Record.{Rec}
 use Rattle.column.specs.Call.{Run}
 use Rattle.record.specs.View.{view}
-use Rattle.bench_file.specs.Said.{Said}
+use Rattle.bench_file.specs.Scenario.{Scenario}
 use Rattle.bench.specs.Group.{heard-in, calls-from, round-calls}
-use Rattle.bench_file.specs.Places.{Located, Places-of}
-use Rattle.bench.specs.Running.{frame-bytes, frame-at}
-use Rattle.bench_file.proofs.Standing.{small}
-use Rattle.bench_file.proofs.Readings.{columns}
-use Rattle.bench.proofs.Hearing.{hear-more, calls-next, close-last}
+use Rattle.bench_file.specs.Steps.Places.{Located, Places-of}
+use Rattle.bench.specs.Steps.Running.{frame-bytes, frame-at}
+use Rattle.bench_file.proofs.Located.{small}
+use Rattle.bench_file.proofs.OneCommand.Readings.{columns}
+use Rattle.bench.proofs.Running.Hearing.{hear-more, calls-next, close-last}
 use Rattle.bench.proofs.group.after_round.Statement.{statement}
 use Rattle.bench.proofs.group.after_round.Tie as tie
 
 abbrev Inv-loop : tie.InvT-loop
 Inv-loop file places round to frames next₀ slot₀ next slot =
     (1 ≤ slot) × (slot ≤ places .n + 1) × (places .n ≤ most-columns)
-    × ((f : Said) →
+    × ((f : Scenario) →
     Located file places f → (z : Rec) →
     Run (view next) (calls-from (heard-in f (λ k. frame-bytes (f .settings) round (frame-at frames k)) round to) (places .n + 1 - slot) slot) z →
     Run (view next₀) (calls-from (heard-in f (λ k. frame-bytes (f .settings) round (frame-at frames k)) round to) (places .n + 1 - 1) 1) z)

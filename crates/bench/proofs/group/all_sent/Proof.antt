@@ -10,10 +10,10 @@ use Rattle.record.specs.Record.{who-as}
 use Rattle.record.specs.Refusal.{send-refusal}
 use Rattle.column.specs.Call.{Frame-of}
 use Rattle.record.specs.View.{who-in, view}
-use Rattle.bench.specs.Finished.{record-of}
-use Rattle.bench.specs.Running.{frame-past, frame-bytes, frame-at}
+use Rattle.bench.specs.Steps.Finished.{record-of}
+use Rattle.bench.specs.Steps.Running.{frame-past, frame-bytes, frame-at}
 use Rattle.bench.specs.declared.group.Frame.{Frame}
-use Rattle.bench.proofs.Hearing.{set-cases}
+use Rattle.bench.proofs.Running.Hearing.{set-cases}
 use Rattle.bench.proofs.group.all_sent.Statement.{statement}
 use Rattle.bench.proofs.group.all_sent.Tie as tie
 

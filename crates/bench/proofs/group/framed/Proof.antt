@@ -7,7 +7,7 @@ use borrow.Author.Needs.{needs}
 use lib.ListN.{length, take}
 use Rattle.record.specs.Frame.{command, header-size, header}
 use Rattle.bench.specs.Group.{bench-run}
-use Rattle.bench.proofs.Text.{put-front, puts, put-taken}
+use Rattle.bench.proofs.Listing.Text.{put-front, puts, put-taken}
 use Rattle.bench.proofs.group.framed.Statement.{statement}
 use Rattle.bench.proofs.group.framed.Tie as tie
 

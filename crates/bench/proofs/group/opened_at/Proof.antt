@@ -13,9 +13,9 @@ use Rattle.record.specs.View.{view}
 use Rattle.record.proofs.Refusal.{opens-of}
 use Rattle.record.proofs.View.{view-opened}
 use Rattle.bench.specs.Group.{bench-run}
-use Rattle.bench_file.specs.Places.{Places-of}
-use Rattle.bench.proofs.Hearing.{stands-inside, stands-none, stands-some}
-use Rattle.bench_file.proofs.Standing.{none-some}
+use Rattle.bench_file.specs.Steps.Places.{Places-of}
+use Rattle.bench.proofs.Running.Hearing.{bytes-at-inside, bytes-at-none, bytes-at-some}
+use Rattle.bench_file.proofs.Located.{none-some}
 use Rattle.bench.proofs.group.opened_at.Statement.{statement}
 use Rattle.bench.proofs.group.opened_at.Tie as tie
 
@@ -26,7 +26,7 @@ empty-requires : tie.Need-empty-requires
 empty-requires c κs = search needs
 
 returns : tie.Need-returns
-returns c f v h e = none-some (sym (stands-none _ (c .before .before .before .before .args .places .w) _ _ (c .before .before .own-at .ensures _ f h) (c .before .if1 .taken)) ∙ e)
+returns c f v h e = none-some (sym (bytes-at-none _ (c .before .before .before .before .args .places .w) _ _ (c .before .before .own-at .ensures _ f h) (c .before .if1 .taken)) ∙ e)
 
 cast-end : tie.Need-cast-end
 cast-end c = search needs
@@ -35,7 +35,7 @@ add-end : tie.Need-add-end
 unfolding Places-of
 add-end c =
     let s = c .before .before .before .before in
-    omega (arith, stands-inside _ (s .args .places .w) _ _ (c .before .before .own-at .ensures _ (s .pre .0 .0) (s .pre .0 .1)) (c .before .if1 .left))
+    omega (arith, bytes-at-inside _ (s .args .places .w) _ _ (c .before .before .own-at .ensures _ (s .pre .0 .0) (s .pre .0 .1)) (c .before .if1 .left))
 
 sub-open : tie.Need-sub-open
 sub-open c = search needs
@@ -47,7 +47,7 @@ part-open-end : tie.Need-part-open-end
 unfolding Places-of
 part-open-end c =
     let s = c .before .before .before .before in
-    omega (arith, stands-inside _ (s .args .places .w) _ _ (c .before .before .own-at .ensures _ (s .pre .0 .0) (s .pre .0 .1)) (c .before .if1 .left))
+    omega (arith, bytes-at-inside _ (s .args .places .w) _ _ (c .before .before .own-at .ensures _ (s .pre .0 .0) (s .pre .0 .1)) (c .before .if1 .left))
 
 open-requires : tie.Need-open-requires
 open-requires c κs = search needs
@@ -58,7 +58,7 @@ returns-2 c f v h e =
     let s = c .before .before .before .before .before .before .before in
     let a = s .args in
     let at = c .before .before .before .before .before .own-at .result in
-    let stood = stands-some _ (a .places .w) _ _ (c .before .before .before .before .before .own-at .ensures _ f h) (c .before .before .before .before .if1 .left) in
+    let stood = bytes-at-some _ (a .places .w) _ _ (c .before .before .before .before .before .own-at .ensures _ f h) (c .before .before .before .before .if1 .left) in
     let size : at + a .places .w - at ≡ a .places .w = omega arith in
     let whole : _≡_ {A = Option (List ℕ)} (some (take (at + a .places .w - at) (drop at (a .file .now)))) (some v) =
     ap (λ (k : ℕ). some (take k (drop at (a .file .now)))) size ∙ sym stood ∙ e in

@@ -7,7 +7,7 @@ use Rattle.record.specs.View.{settings-of, who-in, view}
 use Rattle.column.specs.Call.{Frame-of}
 use Rattle.record.proofs.Front.{front-value}
 use Rattle.record.specs.Frame.{frame-size}
-use Rattle.bench.specs.Running.{frame-bytes}
+use Rattle.bench.specs.Steps.Running.{frame-bytes}
 use Rattle.bench.proofs.group.sent.Statement.{statement}
 use Rattle.bench.proofs.group.sent.Tie as tie
 

@@ -6,9 +6,9 @@ use borrow.Author.Needs.{needs}
 use Rattle.code.specs.Settings.{settings, Settings}
 use Rattle.grading.specs.Held.{held-in}
 use Rattle.bench.specs.Listing.{column-line}
-use Rattle.bench_file.specs.Said.{is-good}
-use Rattle.bench.proofs.Text.{put-nothing, put-alike}
-use Rattle.bench.proofs.Wording.{line-short, held-alike}
+use Rattle.bench_file.specs.Scenario.{is-good}
+use Rattle.bench.proofs.Listing.Text.{put-nothing, put-alike}
+use Rattle.bench.proofs.Listing.Wording.{line-short, held-alike}
 use Rattle.bench.proofs.lines.put_column.Statement.{statement}
 use Rattle.bench.proofs.lines.put_column.Tie as tie
 

@@ -4,8 +4,8 @@ use native.Mathlib.Omega.{arith}
 use borrow.Author.Needs.{needs}
 use Rattle.code.specs.Settings.{settings}
 use Rattle.bench.specs.Listing.{group-line}
-use Rattle.bench.proofs.Decimal.{one-short, two-short}
-use Rattle.bench.proofs.Text.{puts, put-alike}
+use Rattle.bench.proofs.Listing.Decimal.{one-short, two-short}
+use Rattle.bench.proofs.Listing.Text.{puts, put-alike}
 use Rattle.bench.proofs.lines.put_group.Statement.{statement}
 use Rattle.bench.proofs.lines.put_group.Tie as tie
 

@@ -5,7 +5,7 @@ use borrow.Author.Needs.{needs}
 use lib.ListN.{length-append}
 use Rattle.grading.specs.Held.{held-as}
 use Rattle.bench.specs.Listing.{value-text, decimal, held-text}
-use Rattle.bench.proofs.Text.{puts}
+use Rattle.bench.proofs.Listing.Text.{puts}
 use Rattle.bench.proofs.lines.put_held.Statement.{statement}
 use Rattle.bench.proofs.lines.put_held.Tie as tie
 

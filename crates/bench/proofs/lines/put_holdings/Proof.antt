@@ -10,8 +10,8 @@ use Rattle.code.specs.Size.{most-columns, vector-room}
 use Rattle.grading.specs.Value.{entries}
 use Rattle.grading.specs.Held.{held-as, held-in}
 use Rattle.bench.specs.Listing.{held-text, holdings-text}
-use Rattle.bench.proofs.Text.{Left, left-all, left-room, left-more, left-none}
-use Rattle.bench.proofs.Wording.{held-entry, holdings-all, holdings-next, holdings-none, value-in}
+use Rattle.bench.proofs.Listing.Text.{Left, left-all, left-room, left-more, left-none}
+use Rattle.bench.proofs.Listing.Wording.{held-entry, holdings-all, holdings-next, holdings-none, value-in}
 use Rattle.bench.proofs.lines.put_holdings.Statement.{statement}
 use Rattle.bench.proofs.lines.put_holdings.Tie as tie
 

@@ -6,8 +6,8 @@ use native.Mathlib.Omega.{arith}
 use denote.Ref.{now}
 use lib.ListN.{length, getD, drop, length-append, drop-of-length-le}
 use Rattle.bench.specs.Listing.{decimal, pointed, joined}
-use Rattle.bench.proofs.Text.{Left, left-all, left-room, left-more, left-none, next-fits, put-nothing, put-alike, puts}
-use Rattle.bench.proofs.Wording.{joined-first, pointed-next}
+use Rattle.bench.proofs.Listing.Text.{Left, left-all, left-room, left-more, left-none, next-fits, put-nothing, put-alike, puts}
+use Rattle.bench.proofs.Listing.Wording.{joined-first, pointed-next}
 use Rattle.bench.proofs.lines.put_joined.Statement.{statement}
 use Rattle.bench.proofs.lines.put_joined.Tie as tie
 

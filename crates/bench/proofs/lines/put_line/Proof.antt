@@ -8,7 +8,7 @@ use lib.ListN.{length, length-append}
 use Rattle.code.specs.Settings.{settings}
 use Rattle.grading.specs.Held.{Held, held-in}
 use Rattle.bench.specs.Listing.{decimal, holdings-text, column-line}
-use Rattle.bench.proofs.Text.{puts, put-alike}
+use Rattle.bench.proofs.Listing.Text.{puts, put-alike}
 use Rattle.bench.proofs.lines.put_line.Statement.{statement}
 use Rattle.bench.proofs.lines.put_line.Tie as tie
 

@@ -7,10 +7,10 @@ use borrow.Author.Needs.{needs}
 use Rattle.grading.specs.Held.{Held}
 use Rattle.bench.specs.Entry.{listing-room}
 use Rattle.bench.specs.Listing.{group-line, column-lines, listing}
-use Rattle.bench.specs.Finished.{record-of}
-use Rattle.bench.proofs.Text.{puts, put-alike}
-use Rattle.bench_file.proofs.Standing.{small}
-use Rattle.bench_file.proofs.Readings.{columns}
+use Rattle.bench.specs.Steps.Finished.{record-of}
+use Rattle.bench.proofs.Listing.Text.{puts, put-alike}
+use Rattle.bench_file.proofs.Located.{small}
+use Rattle.bench_file.proofs.OneCommand.Readings.{columns}
 use Rattle.bench.proofs.lines.put_listing.Statement.{statement}
 use Rattle.bench.proofs.lines.put_listing.Tie as tie
 

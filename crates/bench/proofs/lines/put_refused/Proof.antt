@@ -4,8 +4,8 @@ use native.Mathlib.Omega.{arith}
 use borrow.Author.Needs.{needs}
 use Rattle.bench.specs.Entry.{listing-room}
 use Rattle.bench.specs.Listing.{refused-line}
-use Rattle.bench.proofs.Decimal.{decimal-short}
-use Rattle.bench.proofs.Text.{puts, put-alike}
+use Rattle.bench.proofs.Listing.Decimal.{decimal-short}
+use Rattle.bench.proofs.Listing.Text.{puts, put-alike}
 use Rattle.bench.proofs.lines.put_refused.Statement.{statement}
 use Rattle.bench.proofs.lines.put_refused.Tie as tie
 

@@ -1,7 +1,7 @@
 -- `put_marked` meets its contract: the number behind the byte. Assumes nothing.
 use native.Mathlib.Omega.{arith}
 use borrow.Author.Needs.{needs}
-use Rattle.bench.proofs.Text.{puts}
+use Rattle.bench.proofs.Listing.Text.{puts}
 use Rattle.bench.proofs.printing.put_marked.Statement.{statement}
 use Rattle.bench.proofs.printing.put_marked.Tie as tie
 

@@ -7,10 +7,10 @@ use lib.ListN.{take, drop}
 use Rattle.record.specs.Frame.{operand-size}
 use Rattle.record.specs.Refusal.{open-refusal}
 use Rattle.bench_file.specs.Command.{command-in, head-size, command-size, message-in, body-in}
-use Rattle.bench_file.specs.Said.{Message, with-own, with-message}
-use Rattle.bench_file.specs.Places.{Located}
-use Rattle.bench_file.proofs.Standing.{small}
-use Rattle.bench_file.proofs.Readings.{columns, own-read, message-read, same-message, command-fits}
+use Rattle.bench_file.specs.Scenario.{Message, with-own, with-message}
+use Rattle.bench_file.specs.Steps.Places.{Located}
+use Rattle.bench_file.proofs.Located.{small}
+use Rattle.bench_file.proofs.OneCommand.Readings.{columns, own-read, message-read, same-message, command-fits}
 use Rattle.bench_file.proofs.commands.after_command.Statement.{statement}
 use Rattle.bench_file.proofs.commands.after_command.Tie as tie
 

@@ -6,8 +6,8 @@ use borrow.Author.Tests.{not-true, not-false}
 use borrow.Author.Needs.{needs}
 use Rattle.code.specs.Settings.{settings}
 use Rattle.bench_file.specs.Command.{is-column, column-refusal}
-use Rattle.bench_file.proofs.Faults.{column-inside, column-as}
-use Rattle.bench_file.proofs.Faults.{column-inside}
+use Rattle.bench_file.proofs.OneCommand.Faults.{column-inside, column-as}
+use Rattle.bench_file.proofs.OneCommand.Faults.{column-inside}
 use Rattle.bench_file.proofs.commands.column_refusal.Statement.{statement}
 use Rattle.bench_file.proofs.commands.column_refusal.Tie as tie
 

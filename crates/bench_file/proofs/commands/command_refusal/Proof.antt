@@ -4,11 +4,11 @@ use borrow.Author.Needs.{needs}
 use lib.ListN.{drop, length-drop}
 use Rattle.code.specs.Settings.{settings}
 use Rattle.record.proofs.Refusal.{first-of-here, first-of-next, first-of-last}
-use Rattle.bench_file.specs.Said.{Said}
-use Rattle.bench_file.specs.Places.{Located, Places-of}
+use Rattle.bench_file.specs.Scenario.{Scenario}
+use Rattle.bench_file.specs.Steps.Places.{Located, Places-of}
 use Rattle.bench_file.specs.Command.{is-known, form-refusal, command-refusal}
-use Rattle.bench_file.proofs.Faults.{form-fits, own-fits}
-use Rattle.bench_file.proofs.Standing.{small}
+use Rattle.bench_file.proofs.OneCommand.Faults.{form-fits, own-fits}
+use Rattle.bench_file.proofs.Located.{small}
 use Rattle.bench_file.proofs.commands.command_refusal.Statement.{statement}
 use Rattle.bench_file.proofs.commands.command_refusal.Tie as tie
 
@@ -21,7 +21,7 @@ form-refusal-requires c κs = let s = small _ _ _ (c .before .pre .0 .1) in (s .
 
 -- the line of the form, at hand
 form :
-    (c : tie.After-form-refusal) (f : Said) → Located (c .before .before .args .file .now) (c .before .before .args .places) f →
+    (c : tie.After-form-refusal) (f : Scenario) → Located (c .before .before .args .file .now) (c .before .before .args .places) f →
     c .form-refusal .result ≡ form-refusal f (drop (c .before .before .args .at) (c .before .before .args .file .now))
 form c f h =
     let s = c .before .before in

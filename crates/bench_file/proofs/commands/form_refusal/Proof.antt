@@ -2,7 +2,7 @@
 use mathlib.Core.Path.{sym, _∙_}
 use borrow.Author.Tests.{lt-ltb, le-ltb, not-true, not-false}
 use borrow.Author.Needs.{needs}
-use Rattle.bench_file.proofs.Faults.{form-as}
+use Rattle.bench_file.proofs.OneCommand.Faults.{form-as}
 use Rattle.bench_file.proofs.commands.form_refusal.Statement.{statement}
 use Rattle.bench_file.proofs.commands.form_refusal.Tie as tie
 

@@ -1,7 +1,7 @@
 -- `heading_of` meets its contract: the bytes behind the command. Assumes nothing.
 use mathlib.Core.Path.{refl, sym, _∙_}
 use borrow.Author.Tests.{eq-eqb, ne-eqb}
-use Rattle.bench_file.specs.Said.{message}
+use Rattle.bench_file.specs.Scenario.{message}
 use Rattle.bench_file.specs.Command.{message-in}
 use Rattle.bench_file.proofs.commands.heading_of.Statement.{statement}
 use Rattle.bench_file.proofs.commands.heading_of.Tie as tie

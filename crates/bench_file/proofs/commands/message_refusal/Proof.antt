@@ -6,8 +6,8 @@ use borrow.Author.Tests.{not-true, not-false, eq-eqb, ne-eqb}
 use borrow.Author.Needs.{needs}
 use Rattle.code.specs.Settings.{settings}
 use Rattle.bench_file.specs.Command.{is-column, message-refusal}
-use Rattle.bench_file.proofs.Faults.{column-inside, column-as}
-use Rattle.bench_file.proofs.Standing.{stands-taken}
+use Rattle.bench_file.proofs.OneCommand.Faults.{column-inside, column-as}
+use Rattle.bench_file.proofs.Located.{bytes-at-taken}
 use Rattle.bench_file.proofs.commands.message_refusal.Statement.{statement}
 use Rattle.bench_file.proofs.commands.message_refusal.Tie as tie
 
@@ -70,13 +70,13 @@ returns-5 : tie.Need-returns-5
 unfolding message-refusal
 returns-5 c file f h =
     let a = c .before .before .before .before .before .before .before .before .before .before .args in
-    simp (column-as f _ _ _ (a .from) (h .settings) (sym (c .before .before .before .before .before .before .before .before .before .is-column .ensures _ _) ∙ not-false _ (c .before .before .before .before .before .before .before .before .if1 .left)), column-as f _ _ _ (a .to) (h .settings) (sym (c .before .before .before .before .before .before .before .is-column2 .ensures _ _) ∙ not-false _ (c .before .before .before .before .before .before .if2 .left)), sym (c .before .before .before .before .before .is-good .ensures file f h) ∙ c .before .before .before .before .if3 .left, sym (c .before .before .before .is-good2 .ensures file f h) ∙ not-false _ (c .before .before .if4 .left), sym (stands-taken _ _ _ _ (c .before .message-at .ensures file f h)), ne-eqb _ 0 (c .if5 .taken))
+    simp (column-as f _ _ _ (a .from) (h .settings) (sym (c .before .before .before .before .before .before .before .before .before .is-column .ensures _ _) ∙ not-false _ (c .before .before .before .before .before .before .before .before .if1 .left)), column-as f _ _ _ (a .to) (h .settings) (sym (c .before .before .before .before .before .before .before .is-column2 .ensures _ _) ∙ not-false _ (c .before .before .before .before .before .before .if2 .left)), sym (c .before .before .before .before .before .is-good .ensures file f h) ∙ c .before .before .before .before .if3 .left, sym (c .before .before .before .is-good2 .ensures file f h) ∙ not-false _ (c .before .before .if4 .left), sym (bytes-at-taken _ _ _ _ (c .before .message-at .ensures file f h)), ne-eqb _ 0 (c .if5 .taken))
 
 returns-6 : tie.Need-returns-6
 unfolding message-refusal
 returns-6 c file f h =
     let a = c .before .before .before .before .before .before .before .before .before .before .args in
-    simp (column-as f _ _ _ (a .from) (h .settings) (sym (c .before .before .before .before .before .before .before .before .before .is-column .ensures _ _) ∙ not-false _ (c .before .before .before .before .before .before .before .before .if1 .left)), column-as f _ _ _ (a .to) (h .settings) (sym (c .before .before .before .before .before .before .before .is-column2 .ensures _ _) ∙ not-false _ (c .before .before .before .before .before .before .if2 .left)), sym (c .before .before .before .before .before .is-good .ensures file f h) ∙ c .before .before .before .before .if3 .left, sym (c .before .before .before .is-good2 .ensures file f h) ∙ not-false _ (c .before .before .if4 .left), sym (stands-taken _ _ _ _ (c .before .message-at .ensures file f h)), eq-eqb _ 0 (c .if5 .left))
+    simp (column-as f _ _ _ (a .from) (h .settings) (sym (c .before .before .before .before .before .before .before .before .before .is-column .ensures _ _) ∙ not-false _ (c .before .before .before .before .before .before .before .before .if1 .left)), column-as f _ _ _ (a .to) (h .settings) (sym (c .before .before .before .before .before .before .before .is-column2 .ensures _ _) ∙ not-false _ (c .before .before .before .before .before .before .if2 .left)), sym (c .before .before .before .before .before .is-good .ensures file f h) ∙ c .before .before .before .before .if3 .left, sym (c .before .before .before .is-good2 .ensures file f h) ∙ not-false _ (c .before .before .if4 .left), sym (bytes-at-taken _ _ _ _ (c .before .message-at .ensures file f h)), eq-eqb _ 0 (c .if5 .left))
 
 pub message-refusal-spec : {M : Type 1} → statement M
 message-refusal-spec =

@@ -7,9 +7,9 @@ use borrow.Author.Needs.{needs}
 use Rattle.code.specs.Settings.{settings}
 use Rattle.record.proofs.Refusal.{first-of-here, first-of-next, first-of-last}
 use Rattle.bench_file.specs.Command.{command-in, is-known, column-refusal}
-use Rattle.bench_file.specs.Step.{Begins}
+use Rattle.bench_file.specs.Steps.CommandAt.{Begins}
 use Rattle.bench_file.specs.declared.commands.Head.{Head}
-use Rattle.bench_file.proofs.Faults.{heading-round, operand-end, operand-own, operand-message}
+use Rattle.bench_file.proofs.OneCommand.Faults.{heading-round, operand-end, operand-own, operand-message}
 use Rattle.bench_file.proofs.commands.operand_refusal.Statement.{statement}
 use Rattle.bench_file.proofs.commands.operand_refusal.Tie as tie
 

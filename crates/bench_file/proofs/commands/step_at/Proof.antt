@@ -6,11 +6,11 @@ use native.Mathlib.Omega.{arith}
 use borrow.Author.Needs.{needs}
 use lib.ListN.{drop}
 use Rattle.code.specs.Settings.{Settings}
-use Rattle.bench_file.specs.Said.{Said}
+use Rattle.bench_file.specs.Scenario.{Scenario}
 use Rattle.bench_file.specs.Command.{command-in, command-size}
-use Rattle.bench_file.specs.Places.{Located, Places-of}
-use Rattle.bench_file.specs.Step.{Accepted, Stepped}
-use Rattle.bench_file.proofs.Standing.{small}
+use Rattle.bench_file.specs.Steps.Places.{Located, Places-of}
+use Rattle.bench_file.specs.Steps.CommandAt.{Accepted, Stepped}
+use Rattle.bench_file.proofs.Located.{small}
 use Rattle.bench_file.proofs.commands.step_at.Statement.{statement}
 use Rattle.bench_file.proofs.commands.step_at.Tie as tie
 
@@ -40,7 +40,7 @@ add-next c = search needs
 
 -- neither turned down nor the end
 accepted :
-    (c : tie.After-command-size) (f : Said) →
+    (c : tie.After-command-size) (f : Scenario) →
     Located (c .before .before .before .before .before .before .before .args .file .now) (c .before .before .before .before .before .before .before .args .places) f →
     Accepted (c .before .before .before .before .before .before .before .args .file .now) f (c .before .before .before .before .before .before .before .args .at)
     (c .before .before .before .before .before .head-at .result) (c .before .before .before .before .before .before .before .args .places)

@@ -5,7 +5,7 @@ use native.Mathlib.Omega.{arith}
 use borrow.Author.Needs.{needs}
 use lib.ListN.{take, drop}
 use Rattle.grading.specs.Value.{is-blank}
-use Rattle.bench_file.proofs.Faults.{value-own, value-other}
+use Rattle.bench_file.proofs.OneCommand.Faults.{value-own, value-other}
 use Rattle.bench_file.proofs.commands.value_refusal.Statement.{statement}
 use Rattle.bench_file.proofs.commands.value_refusal.Tie as tie
 

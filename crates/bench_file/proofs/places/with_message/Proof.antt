@@ -4,10 +4,10 @@ use native.Mathlib.Omega.{arith}
 use lib.ListN.{length}
 use borrow.Author.Needs.{needs}
 use Rattle.record.specs.Frame.{operand-size}
-use Rattle.bench_file.specs.Said.{message, with-message}
+use Rattle.bench_file.specs.Scenario.{message, with-message}
 use Rattle.bench_file.specs.Command.{no-message}
-use Rattle.bench_file.specs.Places.{most-messages, Stands}
-use Rattle.bench_file.proofs.Standing.{Message-range, message-more}
+use Rattle.bench_file.specs.Steps.Places.{most-messages, Bytes-at}
+use Rattle.bench_file.proofs.Located.{Message-range, message-more}
 use Rattle.bench_file.proofs.places.with_message.Statement.{statement}
 use Rattle.bench_file.proofs.places.with_message.Tie as tie
 
@@ -21,7 +21,7 @@ element-write-more : tie.Need-element-write-more
 element-write-more c = search needs
 
 returns : tie.Need-returns
-unfolding with-message Stands no-message message
+unfolding with-message Bytes-at no-message message
 returns c file f x h filled fits e =
     let a = c .before .args in
     let p = c .before .pre in

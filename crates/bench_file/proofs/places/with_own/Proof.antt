@@ -4,9 +4,9 @@ use native.Mathlib.Omega.{arith}
 use lib.ListN.{length}
 use borrow.Author.Needs.{needs}
 use Rattle.code.specs.Size.{most-columns}
-use Rattle.bench_file.specs.Said.{with-own, own-of}
-use Rattle.bench_file.specs.Places.{Stands}
-use Rattle.bench_file.proofs.Standing.{own-more, own-opens}
+use Rattle.bench_file.specs.Scenario.{with-own, own-of}
+use Rattle.bench_file.specs.Steps.Places.{Bytes-at}
+use Rattle.bench_file.proofs.Located.{own-more, own-opens}
 use Rattle.bench_file.proofs.places.with_own.Statement.{statement}
 use Rattle.bench_file.proofs.places.with_own.Tie as tie
 
@@ -23,7 +23,7 @@ element-write-more : tie.Need-element-write-more
 element-write-more c = search needs
 
 returns : tie.Need-returns
-unfolding with-own Stands own-of
+unfolding with-own Bytes-at own-of
 returns c file f v h some fits e good =
     let a = c .args in
     let long : length (a .places .owns) ≡ most-columns = search needs in

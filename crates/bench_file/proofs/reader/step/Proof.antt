@@ -42,9 +42,9 @@ use denote.Triple.Table.{entered, cited}
 use denote.Triple.Walked.{says, needs, Stays, stay-none, walkOf, goes-none, Walks, ends-at, walked, walk-meets}
 use denote.Exit.{yes}
 use denote.Triple.Clauses.{ensured, lasts}
-use Rattle.bench_file.specs.Said.{Said}
-use Rattle.bench_file.specs.Places.{Located, Places-of}
-use Rattle.bench_file.specs.Step.{Stepped}
+use Rattle.bench_file.specs.Scenario.{Scenario}
+use Rattle.bench_file.specs.Steps.Places.{Located, Places-of}
+use Rattle.bench_file.specs.Steps.CommandAt.{Stepped}
 use Rattle.bench_file.specs.declared.commands.Step.{Step}
 use Rattle.bench_file.specs.declared.places.Places.{Places}
 use Rattle.bench_file.specs.declared.reader.Reader.{Reader}
@@ -88,7 +88,7 @@ module _ {M : Type 1} (𝓤 : URA M) (H : Heap 𝓤) (A : Atoms 𝓤) (W : Given
   Asked = Places-of (now (d .file)) p × (d .at ≤ length (now (d .file)))
 
   abbrev Answered : Step → Type 0
-  Answered r = (f : Said) → Located (now (d .file)) p f → Stepped f (now (d .file)) (d .at) (r .turn) (r .places)
+  Answered r = (f : Scenario) → Located (now (d .file)) p f → Stepped f (now (d .file)) (d .at) (r .turn) (r .places)
 
   abbrev vals : Vals step.signature (κ, tt)
   vals = (mach ∷ [], (placed ∷ [], tt))

@@ -37,9 +37,9 @@ use denote.Triple.Table.{entered, cited}
 use denote.Triple.Walked.{says, needs, Stays, stay-none, stay-none-slice, walkOf, goes-none, goes-none-slice, Walks, ends-at, walked, walk-meets}
 use denote.Exit.{yes}
 use denote.Triple.Clauses.{ensured, lasts}
-use Rattle.bench_file.specs.Said.{Said}
-use Rattle.bench_file.specs.Places.{Located, Places-of}
-use Rattle.bench_file.specs.Step.{Stepped}
+use Rattle.bench_file.specs.Scenario.{Scenario}
+use Rattle.bench_file.specs.Steps.Places.{Located, Places-of}
+use Rattle.bench_file.specs.Steps.CommandAt.{Stepped}
 use Rattle.bench_file.specs.declared.commands.Step.{Step}
 use Rattle.bench_file.specs.declared.places.Places.{Places}
 use Rattle.bench_file.specs.declared.reader.Reader.{Reader}
@@ -67,7 +67,7 @@ abbrev Asked : RefT (List ℕ) → ℕ → Places → Type 0
 Asked s n p = Places-of (now s) p × (n ≤ length (now s))
 
 abbrev Answered : RefT (List ℕ) → ℕ → Places → Step → Type 0
-Answered s n p t = (f : Said) → Located (now s) p f → Stepped f (now s) n (t .turn) (t .places)
+Answered s n p t = (f : Scenario) → Located (now s) p f → Stepped f (now s) n (t .turn) (t .places)
 
 -- the reader's type, for the lifetime of its bytes
 abbrev B : Lfts 1 → RattleType

@@ -1,4 +1,4 @@
--- `commands_told` meets its contract. At each turn the file comes to what the commands from the place on come to, after what was said so
+-- `parse_commands` meets its contract. At each turn the file comes to what the commands from the place on come to, after what was said so
 -- far; no more of them can come than there are bytes left. A step of the reader is a step of the definition. Assumes nothing.
 use mathlib.Core.Path.{_≡_, refl, sym, _∙_, ap, subst}
 use mathlib.Core.List.{List}
@@ -7,32 +7,32 @@ use native.Mathlib.Omega.{arith}
 use lib.ListN.{length, drop, drop-of-length-le}
 use lib.Seq.{drop-drop}
 use borrow.Author.Needs.{needs}
-use Rattle.bench_file.specs.Said.{Said, only-settings}
+use Rattle.bench_file.specs.Scenario.{Scenario, only-settings}
 use Rattle.bench_file.specs.Command.{command-in, command-size}
-use Rattle.bench_file.specs.File.{Told, group-in, commands-from}
-use Rattle.bench_file.specs.Places.{Located, Places-of}
-use Rattle.bench_file.specs.Step.{Stepped}
-use Rattle.bench_file.specs.Reading.{Parsed-as}
+use Rattle.bench_file.specs.File.{Parse, group-in, commands-from}
+use Rattle.bench_file.specs.Steps.Places.{Located, Places-of}
+use Rattle.bench_file.specs.Steps.CommandAt.{Stepped}
+use Rattle.bench_file.specs.Steps.Reading.{Parsed-as}
 use Rattle.bench_file.specs.declared.commands.Turn.{Turn}
 use Rattle.bench_file.specs.declared.commands.Turn.the-variants.{Refused, End, Next}
 use Rattle.bench_file.specs.declared.places.Places.{Places}
-use Rattle.bench_file.proofs.Readings.{command-fits}
-use Rattle.bench_file.proofs.Steps.{step-refused, step-end, step-next, step-short, head-some, command-le}
-use Rattle.bench_file.proofs.reading.commands_told.Statement.{statement}
-use Rattle.bench_file.proofs.reading.commands_told.Tie as tie
+use Rattle.bench_file.proofs.OneCommand.Readings.{command-fits}
+use Rattle.bench_file.proofs.WholeFile.Commands.{step-refused, step-end, step-next, step-short, head-some, command-le}
+use Rattle.bench_file.proofs.reading.parse_commands.Statement.{statement}
+use Rattle.bench_file.proofs.reading.parse_commands.Tie as tie
 
 -- what the file comes to
-whole : List ℕ → Told
+whole : List ℕ → Parse
 whole file = commands-from (length file) (only-settings (group-in file)) (drop 4 file)
 
 -- what was said so far, and how many commands may still come
 record So-far (file : List ℕ) (places : Places) (at : ℕ) : Type 0 where
-  pub told : Said
+  pub scenario : Scenario
   pub many : ℕ
-  pub located : Located file places told
+  pub located : Located file places scenario
   pub inside : at ≤ length file
   pub enough : length file ≤ many + at
-  pub rest : commands-from many told (drop at file) ≡ whole file
+  pub rest : commands-from many scenario (drop at file) ≡ whole file
 
 abbrev Inv-loop : tie.InvT-loop
 Inv-loop file places₀ at₀ places at = So-far file places at
@@ -44,34 +44,34 @@ loop-holds : tie.Need-loop-holds Inv-loop μ-loop
 unfolding whole
 loop-holds c =
     let s = c .before in
-    record { told = _; many = length (s .args .file .now); located = s .pre .1; inside = s .pre .0; enough = omega arith; rest = refl }
+    record { scenario = _; many = length (s .args .file .now); located = s .pre .1; inside = s .pre .0; enough = omega arith; rest = refl }
 
 step-from-requires : tie.Need-step-from-requires Inv-loop μ-loop
 unfolding Places-of
-step-from-requires c κs = let i = c .before .loop .inv in ((i .told, i .located), i .inside)
+step-from-requires c κs = let i = c .before .loop .inv in ((i .scenario, i .located), i .inside)
 
 -- a step at a place inside the file: turned down, the end, or on
 module _ (file : List ℕ) (places : Places) (at : ℕ) (i : So-far file places at) (more : at < length file) where
-  turned-down : (n : ℕ) (p q : Places) → Stepped (i .told) file at (Refused n) p → Parsed-as (whole file) file n q
+  turned-down : (n : ℕ) (p q : Places) → Stepped (i .scenario) file at (Refused n) p → Parsed-as (whole file) file n q
   unfolding Stepped Parsed-as
   turned-down n p q h =
-      let told = sym (i .rest) ∙ step-refused (i .many) (i .told) _ (omega (arith, i .enough)) (λ z. h .1 (h .0 ∙ z)) in
-      rw told (h .0, (λ z. h .1 (h .0 ∙ z)), command-le (i .told) _)
+      let parse = sym (i .rest) ∙ step-refused (i .many) (i .scenario) _ (omega (arith, i .enough)) (λ z. h .1 (h .0 ∙ z)) in
+      rw parse (h .0, (λ z. h .1 (h .0 ∙ z)), command-le (i .scenario) _)
 
-  ended : (p : Places) → Stepped (i .told) file at End p → Parsed-as (whole file) file 0 p
+  ended : (p : Places) → Stepped (i .scenario) file at End p → Parsed-as (whole file) file 0 p
   unfolding Stepped Parsed-as
-  ended p h = rw (sym (i .rest) ∙ step-end (i .many) (i .told) _ (omega (arith, i .enough)) (h .0) (h .1)) (refl, h .2)
+  ended p h = rw (sym (i .rest) ∙ step-end (i .many) (i .scenario) _ (omega (arith, i .enough)) (h .0) (h .1)) (refl, h .2)
 
-  moved : (next : ℕ) (p : Places) → Stepped (i .told) file at (Next next) p → (at < next) × So-far file p next
+  moved : (next : ℕ) (p : Places) → Stepped (i .scenario) file at (Next next) p → (at < next) × So-far file p next
   unfolding Stepped command-size
   moved next p h =
       let bs = drop at file in
       let some = head-some (command-in bs) in
-      let there = command-fits file (i .told) at (i .inside) (h .0) in
-      let on = step-next (i .many) (i .told) bs (omega (arith, i .enough)) (h .0) (h .1) in (
+      let there = command-fits file (i .scenario) at (i .inside) (h .0) in
+      let on = step-next (i .many) (i .scenario) bs (omega (arith, i .enough)) (h .0) (h .1) in (
         omega (arith, h .2, some),
         record {
-          told = _;
+          scenario = _;
           many = i .many - 1;
           located = h .3;
           inside = omega (arith, h .2, there);
@@ -93,7 +93,7 @@ returns c =
     let l = d .before .before .loop in
     let file = d .before .before .before .before .args .file .now in
     let more : l .at < length file = omega arith in
-    let step = subst (λ (t : Turn). Stepped (l .inv .told) file (l .at) t (d .step-from .result .places)) (c .before .before .turn .given .1) (d .step-from .ensures (l .inv .told) (l .inv .located)) in
+    let step = subst (λ (t : Turn). Stepped (l .inv .scenario) file (l .at) t (d .step-from .result .places)) (c .before .before .turn .given .1) (d .step-from .ensures (l .inv .scenario) (l .inv .located)) in
     rw (c .refused .ensures) (turned-down file _ (l .at) (l .inv) more _ _ _ step)
 
 enum-told : tie.Need-enum-told Inv-loop μ-loop
@@ -106,7 +106,7 @@ returns-2 c =
     let l = d .before .before .loop in
     let file = d .before .before .before .before .args .file .now in
     let more : l .at < length file = omega arith in
-    let step = subst (λ (t : Turn). Stepped (l .inv .told) file (l .at) t (d .step-from .result .places)) (c .enum-told .given .1) (d .step-from .ensures (l .inv .told) (l .inv .located)) in
+    let step = subst (λ (t : Turn). Stepped (l .inv .scenario) file (l .at) t (d .step-from .result .places)) (c .enum-told .given .1) (d .step-from .ensures (l .inv .scenario) (l .inv .located)) in
     ended file _ (l .at) (l .inv) more _ step
 
 enum-known-turn-2 : tie.Need-enum-known-turn-2 Inv-loop μ-loop
@@ -123,7 +123,7 @@ again c =
     let file = d .before .before .before .before .args .file .now in
     let more : l .at < length file = omega arith in
     moved file _ (l .at) (l .inv) more _ _
-    (subst (λ (t : Turn). Stepped (l .inv .told) file (l .at) t (d .step-from .result .places)) (c .before .turn2 .given .1) (d .step-from .ensures (l .inv .told) (l .inv .located)))
+    (subst (λ (t : Turn). Stepped (l .inv .scenario) file (l .at) t (d .step-from .result .places)) (c .before .turn2 .given .1) (d .step-from .ensures (l .inv .scenario) (l .inv .located)))
 
 loop-less : tie.Need-loop-less Inv-loop μ-loop
 loop-less c = let next = again c in omega (arith, next .0, next .1 .inside)
@@ -141,12 +141,12 @@ returns-3 c =
     let i = l .inv in
     let file = c .before .before .before .before .args .file .now in
     let past : length file ≤ l .at = omega arith in
-    let told =
-    sym (i .rest) ∙ ap (commands-from (i .many) (i .told)) (drop-of-length-le file past) ∙ step-short (i .many) (i .told) in
-    rw told (c .refused2 .ensures, (λ z. omega (arith, z)), omega arith)
+    let parse =
+    sym (i .rest) ∙ ap (commands-from (i .many) (i .scenario)) (drop-of-length-le file past) ∙ step-short (i .many) (i .scenario) in
+    rw parse (c .refused2 .ensures, (λ z. omega (arith, z)), omega arith)
 
-pub commands-told-spec : {M : Type 1} → statement M
-commands-told-spec =
+pub parse-commands-spec : {M : Type 1} → statement M
+parse-commands-spec =
     tie.close
     (tie.spec
     Inv-loop

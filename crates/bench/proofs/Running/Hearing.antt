@@ -14,29 +14,29 @@ use borrow.Author.Tests.{eqb-true, eqb-false, eq-eqb, ne-eqb}
 use Rattle.record.specs.Frame.{header}
 use Rattle.record.specs.Record.{Rec}
 use Rattle.column.specs.Call.{Call, taking, closing, Leads, Run, no-call, one-call}
-use Rattle.bench_file.specs.Said.{Said, is-good, message-of}
+use Rattle.bench_file.specs.Scenario.{Scenario, is-good, message-of}
 use Rattle.bench.specs.Group.{bench-run, framed, heard-in, taking-first, calls-from}
-use Rattle.bench_file.specs.Places.{Stands}
-use Rattle.bench.specs.Running.{Hears}
+use Rattle.bench_file.specs.Steps.Places.{Bytes-at}
+use Rattle.bench.specs.Steps.Running.{After-hearing}
 
 -- places
-pub stands-inside : (file : List ℕ) (size at : ℕ) (x : Option (List ℕ)) → Stands file size at x → (at ≡ 0 → ⊥) → at + size ≤ length file
-unfolding Stands
-stands-inside file size at none s h = absurd (h s)
-stands-inside file size at (some x) s h = s .1
+pub bytes-at-inside : (file : List ℕ) (size at : ℕ) (x : Option (List ℕ)) → Bytes-at file size at x → (at ≡ 0 → ⊥) → at + size ≤ length file
+unfolding Bytes-at
+bytes-at-inside file size at none s h = absurd (h s)
+bytes-at-inside file size at (some x) s h = s .1
 
-pub stands-none : (file : List ℕ) (size at : ℕ) (x : Option (List ℕ)) → Stands file size at x → at ≡ 0 → x ≡ none
-unfolding Stands
-stands-none file size at none s h = refl
-stands-none file size at (some x) s h = absurd (s .0 h)
+pub bytes-at-none : (file : List ℕ) (size at : ℕ) (x : Option (List ℕ)) → Bytes-at file size at x → at ≡ 0 → x ≡ none
+unfolding Bytes-at
+bytes-at-none file size at none s h = refl
+bytes-at-none file size at (some x) s h = absurd (s .0 h)
 
-pub stands-some : (file : List ℕ) (size at : ℕ) (x : Option (List ℕ)) → Stands file size at x → (at ≡ 0 → ⊥) → x ≡ some (take size (drop at file))
-unfolding Stands
-stands-some file size at none s h = absurd (h s)
-stands-some file size at (some x) s h = ap some (s .2)
+pub bytes-at-some : (file : List ℕ) (size at : ℕ) (x : Option (List ℕ)) → Bytes-at file size at x → (at ≡ 0 → ⊥) → x ≡ some (take size (drop at file))
+unfolding Bytes-at
+bytes-at-some file size at none s h = absurd (h s)
+bytes-at-some file size at (some x) s h = ap some (s .2)
 
 -- what is heard
-module _ (f : Said) (frames : ℕ → List ℕ) (m l k : ℕ) where
+module _ (f : Scenario) (frames : ℕ → List ℕ) (m l k : ℕ) where
   pub heard-own : k ≡ l → heard-in f frames m l k ≡ none
   unfolding heard-in
   heard-own e = rw (eq-eqb k l e) refl
@@ -56,8 +56,8 @@ module _ (f : Said) (frames : ℕ → List ℕ) (m l k : ℕ) where
   heard-message x h e g = rw (ne-eqb k l h, e, g) refl
 
 -- a slot, and the calls behind it
-pub hear-more : (k : ℕ) (o : Option (List ℕ)) (r q z : Rec) (cs : List Call) → Hears k o r q → Run q cs z → Run r (taking-first k o cs) z
-unfolding Hears taking-first Leads
+pub hear-more : (k : ℕ) (o : Option (List ℕ)) (r q z : Rec) (cs : List Call) → After-hearing k o r q → Run q cs z → Run r (taking-first k o cs) z
+unfolding After-hearing taking-first Leads
 hear-more k none r q z cs h run = subst (λ (x : Rec). Run x cs z) h run
 hear-more k (some bs) r q z cs h run = one-call r q z (taking k bs) cs h run
 

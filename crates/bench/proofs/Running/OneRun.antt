@@ -26,12 +26,12 @@ use Rattle.column.proofs.Frame.{operand-length}
 use Rattle.rounds.proofs.Rows.{Sized, checked-vector}
 use Rattle.gradecast.proofs.Proper.{proper-open}
 use Rattle.gradecast.proofs.Walk.{run-passes, to-last}
-use Rattle.bench_file.specs.Said.{Said, own-of, is-good, message-of}
+use Rattle.bench_file.specs.Scenario.{Scenario, own-of, is-good, message-of}
 use Rattle.bench.specs.Group.{bench-run, framed, heard-in, taking-first, calls-from, round-calls, Group-run}
 use Rattle.bench.specs.Listing.{group-line, listing}
 use Rattle.bench.specs.Promise.{One-listing}
-use Rattle.bench.proofs.Wording.{lines-same}
-use Rattle.bench.proofs.Exchanged.{In-round, next-round-of, good-own}
+use Rattle.bench.proofs.Listing.Wording.{lines-same}
+use Rattle.bench.proofs.Running.Exchanged.{In-round, next-round-of, good-own}
 
 -- check values as bytes
 checks-unique :
@@ -83,7 +83,7 @@ opened-round s k v o = record { proper = proper-open s k bench-run v o; round = 
 
 -- the same frames of good columns make the same calls
 heard-alike :
-    (f : Said) (frames sent : ℕ → List ℕ) (m l k : ℕ) → (is-good f k ≡ true → frames k ≡ sent k) → heard-in f frames m l k ≡ heard-in f sent m l k
+    (f : Scenario) (frames sent : ℕ → List ℕ) (m l k : ℕ) → (is-good f k ≡ true → frames k ≡ sent k) → heard-in f frames m l k ≡ heard-in f sent m l k
 unfolding heard-in
 heard-alike f frames sent m l k h = go (eqb k l) (is-good f k) refl
   where
@@ -100,7 +100,7 @@ unfolding calls-from
 calls-alike heard others zero k h = refl
 calls-alike heard others (suc n) k h = ap₂ (taking-first k) (h k) (calls-alike heard others n (suc k) h)
 
-module _ (f : Said) (opens : (k : ℕ) (v : Value) → own-of (f .owns) k ≡ some v → open-refusal (f .settings) k v ≡ 0) where
+module _ (f : Scenario) (opens : (k : ℕ) (v : Value) → own-of (f .owns) k ≡ some v → open-refusal (f .settings) k v ≡ 0) where
   -- every record of a run is in its round
   pub in-round :
       (records : ℕ → ℕ → Rec) (frames : ℕ → ℕ → List ℕ) → Group-run f records frames → (k : ℕ) (v : Value) → own-of (f .owns) k ≡ some v →

@@ -16,7 +16,7 @@ use Rattle.grading.specs.Value.{is-blank}
 use Rattle.grading.proofs.Bool.{true-not-false}
 use Rattle.record.specs.Frame.{operand-size}
 use Rattle.record.specs.Refusal.{line, first-of, blank-refusal}
-use Rattle.bench_file.specs.Said.{Said, message}
+use Rattle.bench_file.specs.Scenario.{Scenario, message}
 use Rattle.bench_file.specs.Command.{command-in, is-known, head-size, body-size, command-size, body-in, no-message, form-refusal, message-in, is-column, column-refusal, message-refusal, checks-round-refusal, operand-refusal, value-refusal}
 use Rattle.bench_file.specs.declared.places.Places.{Places}
 
@@ -33,7 +33,7 @@ line-passed false m rest h e = (refl, e)
 line-passed true m rest h e = absurd (omega arith)
 
 -- 19
-pub form-fits : (f : Said) (bs : List ℕ) → form-refusal f bs ≡ 0 → (is-known (command-in bs) ≡ true) × (command-size (f .settings) (command-in bs) ≤ length bs)
+pub form-fits : (f : Scenario) (bs : List ℕ) → form-refusal f bs ≡ 0 → (is-known (command-in bs) ≡ true) × (command-size (f .settings) (command-in bs) ≤ length bs)
 unfolding form-refusal
 form-fits f bs e =
     let known = line-passed (not (is-known (command-in bs))) 19 _ (omega arith) e in
@@ -60,17 +60,17 @@ pub column-inside : (s : Settings) (k : ℕ) → is-column s k ≡ true → (1 �
 unfolding is-column
 column-inside s k e = let tests = and-split (leb 1 k) (leb k (s .n)) e in (leb-true _ _ (tests .0), leb-true _ _ (tests .1))
 
-pub own-inside : (f : Said) (k : ℕ) → column-refusal f k ≡ 0 → (1 ≤ k) × (k ≤ f .settings .n)
+pub own-inside : (f : Scenario) (k : ℕ) → column-refusal f k ≡ 0 → (1 ≤ k) × (k ≤ f .settings .n)
 unfolding column-refusal
 own-inside f k e = column-inside (f .settings) k (not-false _ (line-passed (not (is-column (f .settings) k)) 20 _ (omega arith) e .0))
 
-pub record Message-inside (f : Said) (k l : ℕ) : Type 0 where
+pub record Message-inside (f : Scenario) (k l : ℕ) : Type 0 where
   pub from-low : 1 ≤ k
   pub from-high : k ≤ f .settings .n
   pub to-low : 1 ≤ l
   pub to-high : l ≤ f .settings .n
 
-pub message-inside : (f : Said) (m k l : ℕ) → message-refusal f m k l ≡ 0 → Message-inside f k l
+pub message-inside : (f : Scenario) (m k l : ℕ) → message-refusal f m k l ≡ 0 → Message-inside f k l
 unfolding message-refusal
 message-inside f m k l e =
     let from = line-passed (not (is-column (f .settings) k)) 20 _ (omega arith) e in
@@ -94,7 +94,7 @@ not-not true = refl
 not-not false = refl
 
 pub form-as :
-    (f : Said) (s : Settings) (late : Bool) (bs : List ℕ) (c left : ℕ) → f .settings ≡ s → no-message (f .messages) ≡ not late →
+    (f : Scenario) (s : Settings) (late : Bool) (bs : List ℕ) (c left : ℕ) → f .settings ≡ s → no-message (f .messages) ≡ not late →
     command-in bs ≡ c → length bs ≡ left →
     form-refusal f bs
     ≡ cond (not (is-known c)) 19 (cond (eqb c 4 && late) 19 (cond (ltb left (command-size s c)) 19 (cond (eqb c 15 && ltb 1 left) 19 0)))
@@ -102,20 +102,20 @@ unfolding form-refusal
 form-as f s late bs c left e g h l = rw (h, l, e, g, not-not late) refl
 
 -- a test on a column, by the settings that there are
-pub column-as : (f : Said) (n t w k : ℕ) {q : Bool} → f .settings ≡ settings n t w → is-column (settings n t w) k ≡ q → is-column (f .settings) k ≡ q
+pub column-as : (f : Scenario) (n t w k : ℕ) {q : Bool} → f .settings ≡ settings n t w → is-column (settings n t w) k ≡ q → is-column (f .settings) k ≡ q
 column-as f n t w k e h = rw e h
 
 -- 20, by the command
-pub operand-end : (f : Said) (bs : List ℕ) → command-in bs ≡ 15 → operand-refusal f bs ≡ 0
+pub operand-end : (f : Scenario) (bs : List ℕ) → command-in bs ≡ 15 → operand-refusal f bs ≡ 0
 unfolding operand-refusal
 operand-end f bs e = rw e refl
 
-pub operand-own : (f : Said) (bs : List ℕ) → command-in bs ≡ 4 → operand-refusal f bs ≡ column-refusal f (getD bs 1 0)
+pub operand-own : (f : Scenario) (bs : List ℕ) → command-in bs ≡ 4 → operand-refusal f bs ≡ column-refusal f (getD bs 1 0)
 unfolding operand-refusal
 operand-own f bs e = rw e refl
 
 pub operand-message :
-    (f : Said) (bs : List ℕ) {c m k l : ℕ} → (c ≡ 15 → ⊥) → (c ≡ 4 → ⊥) → command-in bs ≡ c → message-in (f .settings) bs .round ≡ m →
+    (f : Scenario) (bs : List ℕ) {c m k l : ℕ} → (c ≡ 15 → ⊥) → (c ≡ 4 → ⊥) → command-in bs ≡ c → message-in (f .settings) bs .round ≡ m →
     message-in (f .settings) bs .from ≡ k → message-in (f .settings) bs .to ≡ l →
     operand-refusal f bs ≡ first-of (checks-round-refusal c m ∷ message-refusal f m k l ∷ [])
 unfolding operand-refusal
@@ -144,18 +144,18 @@ unfolding body-in body-size head-size operand-size value-size
 body-own s file at w h e = rw (e, h) (ap (take w) (drop-drop 2 at file))
 
 pub value-own :
-    (f : Said) (file : List ℕ) (at w : ℕ) → f .settings .w ≡ w → command-in (drop at file) ≡ 4 →
+    (f : Scenario) (file : List ℕ) (at w : ℕ) → f .settings .w ≡ w → command-in (drop at file) ≡ 4 →
     value-refusal f (drop at file) ≡ cond (is-blank (take w (drop (at + 2) file))) 6 0
 unfolding value-refusal blank-refusal line
 value-own f file at w h e = rw (eq-eqb (command-in (drop at file)) 4 e, body-own (f .settings) file at w h e) refl
 
-pub value-other : (f : Said) (bs : List ℕ) → (command-in bs ≡ 4 → ⊥) → value-refusal f bs ≡ 0
+pub value-other : (f : Scenario) (bs : List ℕ) → (command-in bs ≡ 4 → ⊥) → value-refusal f bs ≡ 0
 unfolding value-refusal
 value-other f bs h = rw (ne-eqb (command-in bs) 4 h) refl
 
 -- a command that is all there
 pub own-fits :
-    (f : Said) (file : List ℕ) (at : ℕ) (p : Places) → f .settings ≡ settings (p .n) (p .t) (p .w) → at ≤ length file →
+    (f : Scenario) (file : List ℕ) (at : ℕ) (p : Places) → f .settings ≡ settings (p .n) (p .t) (p .w) → at ≤ length file →
     command-size (f .settings) (command-in (drop at file)) ≤ length (drop at file) → command-in (drop at file) ≡ 4 → at + (2 + p .w) ≤ length file
 unfolding command-size head-size body-size operand-size value-size settings
 own-fits f file at p s inside h e =

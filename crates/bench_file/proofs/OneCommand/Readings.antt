@@ -15,18 +15,18 @@ use Rattle.grading.specs.Value.{Value}
 use Rattle.record.specs.Frame.{operand-size}
 use Rattle.record.specs.Refusal.{line, number-refusal, size-refusal, blank-refusal, open-refusal}
 use Rattle.record.proofs.Refusal.{first-of-zero, first-of-next, first-of-last}
-use Rattle.bench_file.specs.Said.{Said, Message, message, with-own, with-message}
+use Rattle.bench_file.specs.Scenario.{Scenario, Message, message, with-own, with-message}
 use Rattle.bench_file.specs.Command.{command-in, is-known, head-size, body-size, command-size, body-in, form-refusal, message-in, checks-round-refusal, operand-refusal, value-refusal, command-refusal, after-command}
 use Rattle.bench_file.specs.declared.places.Places.{Places}
-use Rattle.bench_file.proofs.Faults.{form-fits, own-inside, Message-inside, message-inside, heading-round, round-inside, known-cases, body-own, operand-own, operand-message, own-fits}
+use Rattle.bench_file.proofs.OneCommand.Faults.{form-fits, own-inside, Message-inside, message-inside, heading-round, round-inside, known-cases, body-own, operand-own, operand-message, own-fits}
 
 -- all lines passed
-record Passed (f : Said) (bs : List ℕ) : Type 0 where
+record Passed (f : Scenario) (bs : List ℕ) : Type 0 where
   form : form-refusal f bs ≡ 0
   operand : operand-refusal f bs ≡ 0
   value : value-refusal f bs ≡ 0
 
-passed : (f : Said) (bs : List ℕ) → command-refusal f bs ≡ 0 → Passed f bs
+passed : (f : Scenario) (bs : List ℕ) → command-refusal f bs ≡ 0 → Passed f bs
 unfolding command-refusal
 passed f bs e =
     let first = first-of-zero _ _ e in
@@ -43,16 +43,16 @@ opens-with s k v fine low high size filled =
     first-of-next _ fine (first-of-next _ number (first-of-next _ long (first-of-last _ ∙ filled)))
 
 -- the settings, by number
-pub columns : (f : Said) (p : Places) → f .settings ≡ settings (p .n) (p .t) (p .w) → f .settings .n ≡ p .n
+pub columns : (f : Scenario) (p : Places) → f .settings ≡ settings (p .n) (p .t) (p .w) → f .settings .n ≡ p .n
 unfolding settings
 columns f p e = ap (λ (s : Settings). s .n) e
 
-bytes : (f : Said) (p : Places) → f .settings ≡ settings (p .n) (p .t) (p .w) → f .settings .w ≡ p .w
+bytes : (f : Scenario) (p : Places) → f .settings ≡ settings (p .n) (p .t) (p .w) → f .settings .w ≡ p .w
 unfolding settings
 bytes f p e = ap (λ (s : Settings). s .w) e
 
 -- an own value
-pub record Own-read (file : List ℕ) (p : Places) (f : Said) (at k : ℕ) (v : Value) : Type 0 where
+pub record Own-read (file : List ℕ) (p : Places) (f : Scenario) (at k : ℕ) (v : Value) : Type 0 where
   pub low : 1 ≤ k
   pub high : k ≤ p .n
   pub size : at + 2 + p .w ≤ length file
@@ -61,7 +61,7 @@ pub record Own-read (file : List ℕ) (p : Places) (f : Said) (at k : ℕ) (v : 
   pub after : after-command f (drop at file) ≡ with-own f k v
 
 pub own-read :
-    (file : List ℕ) (p : Places) (f : Said) (at : ℕ) → f .settings ≡ settings (p .n) (p .t) (p .w) → settings-refusal (f .settings) ≡ 0 → at ≤ length file → command-refusal f (drop at file) ≡ 0 →
+    (file : List ℕ) (p : Places) (f : Scenario) (at : ℕ) → f .settings ≡ settings (p .n) (p .t) (p .w) → settings-refusal (f .settings) ≡ 0 → at ≤ length file → command-refusal f (drop at file) ≡ 0 →
     command-in (drop at file) ≡ 4 → Own-read file p f at (getD (drop at file) 1 0) (body-in (f .settings) (drop at file))
 unfolding after-command value-refusal
 own-read file p f at same fine inside e own =
@@ -85,7 +85,7 @@ own-read file p f at same fine inside e own =
     }
 
 -- a message
-pub record Message-read (file : List ℕ) (f : Said) (at c : ℕ) (m : Message) : Type 0 where
+pub record Message-read (file : List ℕ) (f : Scenario) (at c : ℕ) (m : Message) : Type 0 where
   pub round-low : 1 ≤ m .round
   pub round-high : m .round ≤ 3
   pub columns : Message-inside f (m .from) (m .to)
@@ -129,7 +129,7 @@ message-cases c e no-own no-end = go (known-cases c e)
     go (inr (inr (inr end))) = absurd (no-end end)
 
 pub message-read :
-    (file : List ℕ) (f : Said) (at : ℕ) → at ≤ length file → command-refusal f (drop at file) ≡ 0 → (command-in (drop at file) ≡ 4 → ⊥) →
+    (file : List ℕ) (f : Scenario) (at : ℕ) → at ≤ length file → command-refusal f (drop at file) ≡ 0 → (command-in (drop at file) ≡ 4 → ⊥) →
     (command-in (drop at file) ≡ 15 → ⊥) → Message-read file f at (command-in (drop at file)) (message-in (f .settings) (drop at file))
 unfolding after-command command-size body-in
 message-read file f at inside e no-own no-end =
@@ -157,5 +157,5 @@ same-message {m} {k} {l} {x} a b c = rw (a, b, c) refl
 
 -- a command that is not turned down is all there
 pub command-fits :
-    (file : List ℕ) (f : Said) (at : ℕ) → at ≤ length file → command-refusal f (drop at file) ≡ 0 → at + command-size (f .settings) (command-in (drop at file)) ≤ length file
+    (file : List ℕ) (f : Scenario) (at : ℕ) → at ≤ length file → command-refusal f (drop at file) ≡ 0 → at + command-size (f .settings) (command-in (drop at file)) ≤ length file
 command-fits file f at inside e = omega (arith, form-fits f (drop at file) (passed f (drop at file) e .form) .1, length-drop at file)
