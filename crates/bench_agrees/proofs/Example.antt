@@ -10,7 +10,7 @@ use Rattle.record.specs.Frame.{operand-size}
 use Rattle.record.specs.Record.{is-taken}
 use Rattle.record.specs.Refusal.{line, first-of, blank-refusal}
 use Rattle.bench_file.specs.Scenario.{Scenario, message, only-settings, with-own, with-message, own-of, is-good, message-of}
-use Rattle.bench_file.specs.Command.{command-in, is-known, head-size, body-size, command-size, body-in, no-message, form-refusal, message-in, is-column, column-refusal, message-refusal, checks-round-refusal, operand-refusal, value-refusal, command-refusal, after-command}
+use Rattle.bench_file.specs.Command.{command-in, is-known, head-size, body-size, command-size, body-in, no-message, form-fault, form-refusal, round-in, from-in, to-in, message-in, is-column, column-refusal, message-refusal, checks-round-refusal, operand-refusal, value-refusal, command-refusal, after-command}
 use Rattle.bench_file.specs.File.{parsed, group-in, group-refusal, commands-from, parse-commands, parse-file}
 use Rattle.bench_agrees.specs.Promise.{bad-from, bad-columns, Few-bad}
 
@@ -35,7 +35,7 @@ group =
 
 pub example-parse : parse-file file ≡ parsed group
 unfolding file group settings settings-refusal check-count value-size is-blank operand-size is-taken line first-of blank-refusal message only-settings with-own with-message
-    own-of is-good message-of command-in is-known head-size body-size command-size body-in no-message form-refusal message-in is-column column-refusal message-refusal
+    own-of is-good message-of command-in is-known head-size body-size command-size body-in no-message form-fault form-refusal round-in from-in to-in message-in is-column column-refusal message-refusal
     checks-round-refusal operand-refusal value-refusal command-refusal after-command group-in group-refusal commands-from parse-commands parse-file
 example-parse = refl
 

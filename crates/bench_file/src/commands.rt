@@ -1,15 +1,15 @@
 // The commands behind the group's: their lengths, their faults, and what they say.
 ghost use mathlib.Core.Path.{_≡_};
-ghost use mathlib.Core.Bool.{_&&_, true, not};
+ghost use mathlib.Core.Bool.{_&&_, true};
 ghost use mathlib.Core.List.{List};
 ghost use Prim.Native.Nat.{ℕ, _+_, _≤_, _<_};
 ghost use lib.ListN.{length, getD, drop};
-ghost use Rattle.code.specs.Settings.{Settings, settings};
+ghost use Rattle.code.specs.Settings.{settings};
 ghost use Rattle.code.specs.Size.{most-columns, value-room, checks-room};
 ghost use Rattle.bench_file.specs.Scenario.{Scenario};
-ghost use Rattle.bench_file.specs.Command.{command-in, is-known, head-size, body-size, command-size, no-message, form-refusal, message-in, is-column, column-refusal, message-refusal, checks-round-refusal, operand-refusal, value-refusal, command-refusal, after-command};
+ghost use Rattle.bench_file.specs.Command.{is-known, head-size, body-size, command-size, form-fault, round-in, from-in, to-in, is-column, column-refusal, message-refusal, checks-round-refusal, operand-refusal, command-refusal, after-command};
 ghost use Rattle.bench_file.specs.Steps.Places.{Located, Places-of};
-ghost use Rattle.bench_file.specs.Steps.CommandAt.{Begins, Accepted, Stepped};
+ghost use Rattle.bench_file.specs.Steps.CommandAt.{Begins, value-fault, Accepted, Stepped};
 use crate::places;
 use crate::places::Places;
 use counting::lent;
@@ -81,10 +81,10 @@ fn head_size(command: u32) -> usize
     1
 }
 
-// The bytes of its value or check values.
+// The bytes of its value or check values; n plays no part.
 fn body_size(t: u32, w: u32, command: u32) -> usize
     requires { ⌜ (t ≤ 10) × (w ≤ value-room) ⌝ }
-    ensures { λ r. ⌜ ((n : ℕ) → r ≡ body-size (settings n t w) command) ⌝ }
+    ensures { λ r. ⌜ r ≡ body-size (settings 0 t w) command ⌝ }
     ensures small { λ r. ⌜ r ≤ checks-room ⌝ }
 {
     if command == 15 {
@@ -98,7 +98,7 @@ fn body_size(t: u32, w: u32, command: u32) -> usize
 
 fn command_size(t: u32, w: u32, command: u32) -> usize
     requires { ⌜ (t ≤ 10) × (w ≤ value-room) ⌝ }
-    ensures { λ r. ⌜ ((n : ℕ) → r ≡ command-size (settings n t w) command) ⌝ }
+    ensures { λ r. ⌜ r ≡ command-size (settings 0 t w) command ⌝ }
     ensures small { λ r. ⌜ (1 ≤ r) × (r ≤ 4 + checks-room) ⌝ }
 {
     head_size(command) + body_size(t, w, command)
@@ -116,7 +116,7 @@ fn both(a: bool, b: bool) -> bool
 // 19: unknown, out of order, cut short, bytes after the end; of so many bytes left.
 fn form_refusal(command: u32, left: usize, t: u32, w: u32, late: bool) -> u32
     requires { ⌜ (t ≤ 10) × (w ≤ value-room) ⌝ }
-    ensures { λ r. ⌜ ((f : Scenario) (n : ℕ) (bs : List ℕ) → f .settings ≡ settings n t w → no-message (f .messages) ≡ not late → command-in bs ≡ command → length bs ≡ left → r ≡ form-refusal f bs) ⌝ }
+    ensures { λ r. ⌜ r ≡ form-fault (settings 0 t w) late command left ⌝ }
 {
     if !is_known(command) {
         return 19;
@@ -134,7 +134,7 @@ fn form_refusal(command: u32, left: usize, t: u32, w: u32, late: bool) -> u32
 }
 
 fn is_column(n: u32, column: u32) -> bool
-    ensures { λ r. ⌜ ((t w : ℕ) → r ≡ is-column (settings n t w) column) ⌝ }
+    ensures { λ r. ⌜ r ≡ is-column n column ⌝ }
 {
     if column < 1 {
         return false;
@@ -187,7 +187,7 @@ pub struct Heading {
 }
 
 fn heading_of(head: Head) -> Heading
-    ensures { λ r. ⌜ ((s : Settings) (bs : List ℕ) → Begins bs head → (r .round ≡ message-in s bs .round) × (r .from ≡ message-in s bs .from) × (r .to ≡ message-in s bs .to)) ⌝ }
+    ensures { λ r. ⌜ ((bs : List ℕ) → Begins bs head → (r .round ≡ round-in bs) × (r .from ≡ from-in bs) × (r .to ≡ to-in bs)) ⌝ }
 {
     if head.command == 2 {
         return Heading {
@@ -241,7 +241,7 @@ fn operand_refusal(head: Head, places: Places) -> u32
 // 6: own value blank.
 fn value_refusal(file: &[u8], at: usize, command: u32, w: u32) -> u32
     requires { ⌜ (w ≤ value-room) × (at ≤ length (now file)) × (command ≡ 4 → at + (2 + w) ≤ length (now file)) ⌝ }
-    ensures { λ r. ⌜ ((f : Scenario) → f .settings .w ≡ w → command-in (drop at (now (file .entry))) ≡ command → r ≡ value-refusal f (drop at (now (file .entry)))) ⌝ }
+    ensures { λ r. ⌜ r ≡ value-fault (now (file .entry)) at command w ⌝ }
 {
     if command != 4 {
         return 0;

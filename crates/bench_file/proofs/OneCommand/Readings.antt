@@ -1,12 +1,11 @@
 -- What a command that is not turned down says, and where its value or check values stand. An own value is one to open with, since every
 -- line of opening was tested; a message of rounds two and three has the size of its round's operand. Assumes nothing.
 use mathlib.Core.Path.{_≡_, refl, sym, _∙_, ap}
-use mathlib.Core.Bool.{Bool, true, false, cond}
+use mathlib.Core.Bool.{true}
 use mathlib.Core.List.{List}
 use mathlib.Core.Logic.{_⊎_, inl, inr}
 use Prim.Native.Nat.{ℕ, _+_, _≤_}
 use native.Mathlib.Omega.{arith}
-use lib.Dec.{eqb}
 use lib.ListN.{length, getD, take, drop, length-drop}
 use lib.Seq.{drop-drop, length-take-le}
 use borrow.Author.Tests.{eq-eqb, ne-eqb, le-leb}
@@ -16,7 +15,7 @@ use Rattle.record.specs.Frame.{operand-size}
 use Rattle.record.specs.Refusal.{line, number-refusal, size-refusal, blank-refusal, open-refusal}
 use Rattle.record.proofs.Refusal.{first-of-zero, first-of-next, first-of-last}
 use Rattle.bench_file.specs.Scenario.{Scenario, Message, message, with-own, with-message}
-use Rattle.bench_file.specs.Command.{command-in, is-known, head-size, body-size, command-size, body-in, form-refusal, message-in, checks-round-refusal, operand-refusal, value-refusal, command-refusal, after-command}
+use Rattle.bench_file.specs.Command.{command-in, is-known, head-size, body-size, command-size, body-in, form-refusal, round-in, message-in, checks-round-refusal, operand-refusal, value-refusal, command-refusal, after-command}
 use Rattle.bench_file.specs.declared.places.Places.{Places}
 use Rattle.bench_file.proofs.OneCommand.Faults.{form-fits, own-inside, Message-inside, message-inside, heading-round, round-inside, known-cases, body-own, operand-own, operand-message, own-fits}
 
@@ -93,27 +92,15 @@ pub record Message-read (file : List ℕ) (f : Scenario) (at c : ℕ) (m : Messa
   pub operand : m .operand ≡ take (operand-size (f .settings) (m .round)) (drop (at + head-size c) file)
   pub after : after-command f (drop at file) ≡ with-message f m
 
--- the operand of a message is what stands behind its head
-operand-body : (s : Settings) (bs : List ℕ) → message-in s bs .operand ≡ body-in s bs
-unfolding message-in message
-operand-body s bs = go (eqb (command-in bs) 2)
-  where
-    go :
-        (q : Bool) →
-        cond q (message 1 (getD bs 1 0) (getD bs 2 0) (body-in s bs)) (message (getD bs 1 0) (getD bs 2 0) (getD bs 3 0) (body-in s bs)) .operand
-        ≡ body-in s bs
-    go true = refl
-    go false = refl
-
--- and it has the size of its round
+-- the operand of a message has the size of its round
 checks-alike : (s : Settings) (m : ℕ) → 2 ≤ m → operand-size s 2 ≡ operand-size s m
 unfolding operand-size
 checks-alike s m h = rw (ne-eqb m 1 (λ z. omega arith)) refl
 
 body-round :
-    (s : Settings) (bs : List ℕ) → (command-in bs ≡ 2) ⊎ (command-in bs ≡ 3) → checks-round-refusal (command-in bs) (message-in s bs .round) ≡ 0 →
-    body-size s (command-in bs) ≡ operand-size s (message-in s bs .round)
-unfolding body-size message-in message
+    (s : Settings) (bs : List ℕ) → (command-in bs ≡ 2) ⊎ (command-in bs ≡ 3) → checks-round-refusal (command-in bs) (round-in bs) ≡ 0 →
+    body-size s (command-in bs) ≡ operand-size s (round-in bs)
+unfolding body-size round-in
 body-round s bs (inl two) e = rw two refl
 body-round s bs (inr three) e =
     let round = round-inside (getD bs 1 0) (rw three at e) in
@@ -131,7 +118,7 @@ message-cases c e no-own no-end = go (known-cases c e)
 pub message-read :
     (file : List ℕ) (f : Scenario) (at : ℕ) → at ≤ length file → command-refusal f (drop at file) ≡ 0 → (command-in (drop at file) ≡ 4 → ⊥) →
     (command-in (drop at file) ≡ 15 → ⊥) → Message-read file f at (command-in (drop at file)) (message-in (f .settings) (drop at file))
-unfolding after-command command-size body-in
+unfolding after-command command-size body-in message-in message
 message-read file f at inside e no-own no-end =
     let bs = drop at file in
     let s = f .settings in
@@ -140,14 +127,14 @@ message-read file f at inside e no-own no-end =
     let lines = passed f bs e in
     let fits = form-fits f bs (lines .form) in
     let allowed = first-of-zero _ _ (sym (operand-message f bs no-end no-own refl refl refl refl) ∙ lines .operand) in
-    let round = heading-round bs (m .round) refl (fits .0) no-end no-own s refl (allowed .0) in
+    let round = heading-round bs (m .round) refl (fits .0) no-end no-own refl (allowed .0) in
     let size = body-round s bs (message-cases c (fits .0) no-own no-end) (allowed .0) in
     record {
       round-low = round .0;
       round-high = round .1;
       columns = message-inside f _ _ _ (first-of-zero _ _ (allowed .1) .0);
       size = omega (arith, fits .1, size, length-drop at file);
-      operand = operand-body s bs ∙ ap (λ (k : ℕ). take k (drop (head-size c) bs)) size ∙ ap (take (operand-size s (m .round))) (drop-drop (head-size c) at file);
+      operand = ap (λ (k : ℕ). take k (drop (head-size c) bs)) size ∙ ap (take (operand-size s (m .round))) (drop-drop (head-size c) at file);
       after = rw (ne-eqb (command-in bs) 4 no-own) refl;
     }
 

@@ -15,7 +15,7 @@ use Rattle.record.specs.Refusal.{line, first-of, blank-refusal}
 use Rattle.record.specs.Record.{is-taken}
 use Rattle.record.proofs.Refusal.{first-of-zero}
 use Rattle.bench_file.specs.Scenario.{Scenario, only-settings, is-good, message-of}
-use Rattle.bench_file.specs.Command.{command-in, is-known, head-size, command-size, body-in, no-message, form-refusal, is-column, column-refusal, message-refusal, checks-round-refusal, operand-refusal, value-refusal, command-refusal, after-command}
+use Rattle.bench_file.specs.Command.{command-in, is-known, head-size, command-size, body-in, no-message, form-fault, form-refusal, is-column, column-refusal, message-refusal, checks-round-refusal, operand-refusal, value-refusal, command-refusal, after-command}
 use Rattle.bench_file.specs.File.{refused, parsed, longest-file, group-in, group-refusal, commands-from, parse-commands, parse-file}
 use Rattle.bench_file.proofs.OneCommand.Faults.{line-passed}
 
@@ -51,7 +51,7 @@ module _ (many : ℕ) (f : Scenario) (bs : List ℕ) (some : 1 ≤ many) where
 
 -- nothing left
 pub step-short : (many : ℕ) (f : Scenario) → commands-from many f [] ≡ refused 19
-unfolding commands-from command-refusal form-refusal is-known command-in first-of
+unfolding commands-from command-refusal form-refusal form-fault is-known command-in first-of
 step-short zero f = refl
 step-short (suc k) f = refl
 
@@ -80,7 +80,7 @@ unfolding first-of
 first-of-le a rest m h l = cond-le (eqb a 0) (first-of rest) a m l h
 
 form-le : (f : Scenario) (bs : List ℕ) → form-refusal f bs ≤ 20
-unfolding form-refusal
+unfolding form-refusal form-fault
 form-le f bs =
     cond-le (not (is-known (command-in bs))) 19 _ 20 (omega arith)
     (cond-le (eqb (command-in bs) 4 && not (no-message (f .messages))) 19 _ 20 (omega arith)
@@ -89,13 +89,13 @@ form-le f bs =
 
 column-le : (f : Scenario) (k : ℕ) → column-refusal f k ≤ 20
 unfolding column-refusal
-column-le f k = cond-le (not (is-column (f .settings) k)) 20 _ 20 (omega arith) (cond-le (is-good f k) 20 0 20 (omega arith) (omega arith))
+column-le f k = cond-le (not (is-column (f .settings .n) k)) 20 _ 20 (omega arith) (cond-le (is-good f k) 20 0 20 (omega arith) (omega arith))
 
 message-le : (f : Scenario) (m k l : ℕ) → message-refusal f m k l ≤ 20
 unfolding message-refusal
 message-le f m k l =
-    cond-le (not (is-column (f .settings) k)) 20 _ 20 (omega arith)
-    (cond-le (not (is-column (f .settings) l)) 20 _ 20 (omega arith)
+    cond-le (not (is-column (f .settings .n) k)) 20 _ 20 (omega arith)
+    (cond-le (not (is-column (f .settings .n) l)) 20 _ 20 (omega arith)
     (cond-le (is-good f k) 20 _ 20 (omega arith)
     (cond-le (not (is-good f l)) 20 _ 20 (omega arith)
     (cond-le (is-taken (message-of (f .messages) m k l)) 20 0 20 (omega arith) (omega arith)))))

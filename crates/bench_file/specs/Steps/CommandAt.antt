@@ -1,9 +1,12 @@
 -- One command of a bench file read at a place: the bytes with which it begins, and where reading goes on behind it. Assumes nothing: these
 -- are definitions.
 use mathlib.Core.Path.{_≡_}
+use mathlib.Core.Bool.{cond}
 use mathlib.Core.List.{List}
 use Prim.Native.Nat.{ℕ, _+_, _≤_, _<_, _^_}
-use lib.ListN.{length, getD, drop}
+use lib.Dec.{eqb}
+use lib.ListN.{length, getD, take, drop}
+use Rattle.record.specs.Refusal.{blank-refusal}
 use Rattle.bench_file.specs.Scenario.{Scenario}
 use Rattle.bench_file.specs.Command.{command-in, command-size, command-refusal, after-command}
 use Rattle.bench_file.specs.Steps.Places.{Located}
@@ -18,6 +21,10 @@ pub record Begins (bs : List ℕ) (h : Head) : Type 0 where
   pub first : getD bs 1 0 ≡ h .first
   pub second : getD bs 2 0 ≡ h .second
   pub third : getD bs 3 0 ≡ h .third
+
+-- 6, of the bytes behind an own command's two
+unfoldable pub value-fault : (file : List ℕ) → (at command w : ℕ) → ℕ
+value-fault file at c w = cond (eqb c 4) (blank-refusal (take w (drop (at + 2) file))) 0
 
 -- a command that is not turned down, after what was said so far, and not the end
 pub record Accepted (file : List ℕ) (f : Scenario) (at : ℕ) (h : Head) (p : Places) : Type 0 where

@@ -7,7 +7,7 @@ use lib.ListN.{take, drop}
 use Rattle.record.specs.Frame.{operand-size}
 use Rattle.record.specs.Refusal.{open-refusal}
 use Rattle.bench_file.specs.Command.{command-in, head-size, command-size, message-in, body-in}
-use Rattle.bench_file.specs.Scenario.{Message, with-own, with-message}
+use Rattle.bench_file.specs.Scenario.{Message, message, with-own, with-message}
 use Rattle.bench_file.specs.Steps.Places.{Located}
 use Rattle.bench_file.proofs.Located.{small}
 use Rattle.bench_file.proofs.OneCommand.Readings.{columns, own-read, message-read, same-message, command-fits}
@@ -52,25 +52,27 @@ heading-of-requires : tie.Need-heading-of-requires
 heading-of-requires c κs = search needs
 
 with-message-requires : tie.Need-with-message-requires
+unfolding message-in message
 with-message-requires c κs =
     let s = c .before .before .before .before in
     let a = s .args in
     let f = s .pre .1 in
     let k = s .pre .2 in
     let r = message-read _ f (a .at) (k .inside) (k .fine) (λ z. c .before .if1 .left (sym (k .begins .command) ∙ z)) (k .goes-on) in
-    let head = c .heading-of .ensures (f .settings) _ (k .begins) in
+    let head = c .heading-of .ensures _ (k .begins) in
     let n = small _ _ _ (k .located) .few-columns in
     let columns = columns f (a .places) (k .located .settings) in
     omega
     (arith, head .0, head .1, head .2, n, columns, r .round-low, r .round-high, r .columns .from-low, r .columns .from-high, r .columns .to-low, r .columns .to-high)
 
 returns-2 : tie.Need-returns-2
+unfolding message-in message
 returns-2 c file f k =
     let a = c .before .before .before .before .before .args in
     let command = k .begins .command in
     let r = message-read file f (a .at) (k .inside) (k .fine) (λ z. c .before .before .if1 .left (sym command ∙ z)) (k .goes-on) in
     let m = message-in (f .settings) (drop (a .at) file) in
-    let head = c .before .heading-of .ensures (f .settings) _ (k .begins) in
+    let head = c .before .heading-of .ensures _ (k .begins) in
     let body : a .at + c .before .before .before .before .head-size .result ≡ a .at + head-size (command-in (drop (a .at) file)) =
     ap (λ (i : ℕ). a .at + i) (c .before .before .before .before .head-size .ensures .0 ∙ ap head-size (sym command)) in
     let size = ap (operand-size (f .settings)) (head .0) in

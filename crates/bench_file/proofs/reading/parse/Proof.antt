@@ -32,8 +32,8 @@ refused-requires-2 c κs = search needs
 returns-2 : tie.Need-returns-2
 unfolding Parsed-as
 returns-2 c =
-    let answer = group (c .before .before) in
-    rw (parse-refused _ (c .before .before .before .before .if1 .left) (λ z. c .before .if2 .taken (answer ∙ z))) (c .refused2 .ensures ∙ answer, (λ z. c .before .if2 .taken (answer ∙ z)), group-le _)
+    let wrong = c .before .before in
+    rw (parse-refused _ (wrong .before .before .if1 .left) (λ z. c .before .if2 .taken (group wrong ∙ z))) (c .refused2 .ensures ∙ group wrong, (λ z. c .before .if2 .taken (group wrong ∙ z)), group-le _)
 
 only-settings-requires : tie.Need-only-settings-requires
 only-settings-requires c κs = search needs
@@ -41,16 +41,16 @@ only-settings-requires c κs = search needs
 parse-commands-requires : tie.Need-parse-commands-requires
 unfolding group-in
 parse-commands-requires c κs =
-    let file = c .before .before .before .before .before .before .args .file .now in
-    let head = c .before .before .before .head-at in
-    let fits = group-fits file (sym (group (c .before .before)) ∙ c .before .if2 .left) in
+    let right = c .before .before in
+    let head = right .before .head-at in
+    let file = right .before .before .before .before .args .file .now in
+    let fits = group-fits file (sym (group right) ∙ c .before .if2 .left) in
     let same : settings (head .result .first) (head .result .second) (head .result .third) ≡ group-in file =
     simp (head .ensures .first, head .ensures .second, head .ensures .third) in
     (fits .0, rw (sym same) (c .only-settings .ensures file (rw same (fits .1))))
 
 returns-3 : tie.Need-returns-3
-returns-3 c =
-    rw (parse-passed _ (c .before .before .before .before .before .if1 .left) (sym (group (c .before .before .before)) ∙ c .before .before .if2 .left)) (c .parse-commands .ensures)
+returns-3 c = let right = c .before .before .before in rw (parse-passed _ (right .before .before .if1 .left) (sym (group right) ∙ c .before .before .if2 .left)) (c .parse-commands .ensures)
 
 pub parse-spec : {M : Type 1} → statement M
 parse-spec =

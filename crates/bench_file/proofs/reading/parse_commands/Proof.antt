@@ -80,6 +80,18 @@ module _ (file : List ℕ) (places : Places) (at : ℕ) (i : So-far file places 
         },
       )
 
+-- what a step gave, in the file that is read
+abbrev file-at : tie.After-step-from Inv-loop μ-loop → List ℕ
+file-at d = d .before .before .before .before .args .file .now
+
+inside : (d : tie.After-step-from Inv-loop μ-loop) → d .before .before .loop .at < length (file-at d)
+inside d = omega arith
+
+stepped :
+    (d : tie.After-step-from Inv-loop μ-loop) (t : Turn) → d .step-from .result .turn ≡ t →
+    let l = d .before .before .loop in Stepped (l .inv .scenario) (file-at d) (l .at) t (d .step-from .result .places)
+stepped d t e = let l = d .before .before .loop in subst (λ (x : Turn). Stepped (l .inv .scenario) (file-at d) (l .at) x (d .step-from .result .places)) e (d .step-from .ensures (l .inv .scenario) (l .inv .located))
+
 enum-known-turn : tie.Need-enum-known-turn Inv-loop μ-loop
 enum-known-turn c = search needs
 
@@ -90,24 +102,14 @@ returns : tie.Need-returns Inv-loop μ-loop
 unfolding whole
 returns c =
     let d = c .before .before .before .before .before in
-    let l = d .before .before .loop in
-    let file = d .before .before .before .before .args .file .now in
-    let more : l .at < length file = omega arith in
-    let step = subst (λ (t : Turn). Stepped (l .inv .scenario) file (l .at) t (d .step-from .result .places)) (c .before .before .turn .given .1) (d .step-from .ensures (l .inv .scenario) (l .inv .located)) in
-    rw (c .refused .ensures) (turned-down file _ (l .at) (l .inv) more _ _ _ step)
+    rw (c .refused .ensures) (turned-down (file-at d) _ _ (d .before .before .loop .inv) (inside d) _ _ _ (stepped d _ (c .before .before .turn .given .1)))
 
 enum-told : tie.Need-enum-told Inv-loop μ-loop
 enum-told c = search needs
 
 returns-2 : tie.Need-returns-2 Inv-loop μ-loop
 unfolding whole
-returns-2 c =
-    let d = c .before .before .before in
-    let l = d .before .before .loop in
-    let file = d .before .before .before .before .args .file .now in
-    let more : l .at < length file = omega arith in
-    let step = subst (λ (t : Turn). Stepped (l .inv .scenario) file (l .at) t (d .step-from .result .places)) (c .enum-told .given .1) (d .step-from .ensures (l .inv .scenario) (l .inv .located)) in
-    ended file _ (l .at) (l .inv) more _ step
+returns-2 c = let d = c .before .before .before in ended (file-at d) _ _ (d .before .before .loop .inv) (inside d) _ (stepped d _ (c .enum-told .given .1))
 
 enum-known-turn-2 : tie.Need-enum-known-turn-2 Inv-loop μ-loop
 enum-known-turn-2 c = search needs
@@ -115,15 +117,10 @@ enum-known-turn-2 c = search needs
 -- the next turn of the loop
 again :
     (c : tie.After-known-told2 Inv-loop μ-loop) →
-    (c .before .before .before .before .before .before .loop .at < c .before .turn2 .given .0 .0)
-    × So-far (c .before .before .before .before .before .before .before .before .args .file .now) (c .before .before .before .before .step-from .result .places) (c .before .turn2 .given .0 .0)
-again c =
     let d = c .before .before .before .before in
-    let l = d .before .before .loop in
-    let file = d .before .before .before .before .args .file .now in
-    let more : l .at < length file = omega arith in
-    moved file _ (l .at) (l .inv) more _ _
-    (subst (λ (t : Turn). Stepped (l .inv .scenario) file (l .at) t (d .step-from .result .places)) (c .before .turn2 .given .1) (d .step-from .ensures (l .inv .scenario) (l .inv .located)))
+    let next = c .before .turn2 .given .0 .0 in
+    (d .before .before .loop .at < next) × So-far (file-at d) (d .step-from .result .places) next
+again c = let d = c .before .before .before .before in moved (file-at d) _ _ (d .before .before .loop .inv) (inside d) _ _ (stepped d _ (c .before .turn2 .given .1))
 
 loop-less : tie.Need-loop-less Inv-loop μ-loop
 loop-less c = let next = again c in omega (arith, next .0, next .1 .inside)
