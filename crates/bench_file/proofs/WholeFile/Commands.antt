@@ -1,6 +1,6 @@
 -- A file command by command. One step of the commands' definition is one command: turned down, the end, or the rest behind it. No
 -- bytes left is cut short, however many commands may still come. No refusal has a number above 20. Assumes nothing.
-use mathlib.Core.Path.{_≡_, refl}
+use mathlib.Core.Path.{_≡_, refl, _∙_, ap}
 use mathlib.Core.Bool.{Bool, true, false, cond, not, _&&_, _||_}
 use mathlib.Core.List.{List, [], _∷_}
 use Prim.Native.Nat.{ℕ, zero, suc, _+_, _-_, _*_, _≤_, _<_}
@@ -21,33 +21,25 @@ use Rattle.bench_file.proofs.OneCommand.Faults.{line-passed}
 
 -- one command
 module _ (many : ℕ) (f : Scenario) (bs : List ℕ) (some : 1 ≤ many) where
-  pub step-refused : (command-refusal f bs ≡ 0 → ⊥) → commands-from many f bs ≡ refused (command-refusal f bs)
+  step-once :
+      commands-from many f bs
+      ≡ cond (not (eqb (command-refusal f bs) 0)) (refused (command-refusal f bs))
+      (cond (eqb (command-in bs) 15) (parsed f) (commands-from (many - 1) (after-command f bs) (drop (command-size (f .settings) (command-in bs)) bs)))
   unfolding commands-from
-  step-refused h = go many some
-    where
-      go : (k : ℕ) → 1 ≤ k → commands-from k f bs ≡ refused (command-refusal f bs)
-      go zero l = absurd (omega arith)
-      go (suc k) l = rw (ne-eqb (command-refusal f bs) 0 h) refl
+  step-once =
+      let more : many ≡ suc (many - 1) = omega arith in
+      ap (λ (k : ℕ). commands-from k f bs) more
+
+  pub step-refused : (command-refusal f bs ≡ 0 → ⊥) → commands-from many f bs ≡ refused (command-refusal f bs)
+  step-refused h = step-once ∙ rw (ne-eqb (command-refusal f bs) 0 h) refl
 
   pub step-end : command-refusal f bs ≡ 0 → command-in bs ≡ 15 → commands-from many f bs ≡ parsed f
-  unfolding commands-from
-  step-end h e = go many some
-    where
-      go : (k : ℕ) → 1 ≤ k → commands-from k f bs ≡ parsed f
-      go zero l = absurd (omega arith)
-      go (suc k) l = rw (eq-eqb (command-refusal f bs) 0 h, eq-eqb (command-in bs) 15 e) refl
+  step-end h e = step-once ∙ rw (eq-eqb (command-refusal f bs) 0 h, eq-eqb (command-in bs) 15 e) refl
 
   pub step-next :
       command-refusal f bs ≡ 0 → (command-in bs ≡ 15 → ⊥) →
       commands-from many f bs ≡ commands-from (many - 1) (after-command f bs) (drop (command-size (f .settings) (command-in bs)) bs)
-  unfolding commands-from
-  step-next h e = go many some
-    where
-      go : (k : ℕ) → 1 ≤ k → commands-from k f bs ≡ commands-from (k - 1) (after-command f bs) (drop (command-size (f .settings) (command-in bs)) bs)
-      go zero l = absurd (omega arith)
-      go (suc k) l =
-          let less : suc k - 1 ≡ k = omega arith in
-          rw (eq-eqb (command-refusal f bs) 0 h, ne-eqb (command-in bs) 15 e, less) refl
+  step-next h e = step-once ∙ rw (eq-eqb (command-refusal f bs) 0 h, ne-eqb (command-in bs) 15 e) refl
 
 -- nothing left
 pub step-short : (many : ℕ) (f : Scenario) → commands-from many f [] ≡ refused 19

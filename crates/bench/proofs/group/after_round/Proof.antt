@@ -59,8 +59,8 @@ loop-less c = omega arith
 loop-again : tie.Need-loop-again Inv-loop μ-loop
 unfolding frame-at
 loop-again c =
-    let l = c .before .before .before .before .loop in
-    let a = c .before .before .before .before .before .before .args in (
+    let turn = c .before .before .before .before in let l = turn .loop in
+    let a = turn .before .before .args in (
       omega arith,
       omega arith,
       l .inv .2,
@@ -76,8 +76,8 @@ close-requires c κs = search needs
 returns : tie.Need-returns Inv-loop μ-loop
 unfolding round-calls
 returns c f h =
-    let l = c .before .before .before .before .loop in
-    let a = c .before .before .before .before .before .before .args in
+    let turn = c .before .before .before .before in let l = turn .loop in
+    let a = turn .before .before .args in
     let none : a .places .n + 1 - l .slot ≡ 0 = omega arith in
     let all : f .settings .n ≡ a .places .n + 1 - 1 = omega (arith, columns f (a .places) (h .settings)) in
     let heard = heard-in f (λ k. frame-bytes (f .settings) (a .round) (frame-at (a .t4) k)) (a .round) (a .to) in

@@ -55,9 +55,9 @@ array-copy-out-column c = omega arith
 
 after-round-requires : tie.Need-after-round-requires Inv-loop μ-loop
 after-round-requires c κs =
-    let l = c .before .before .before .loop .inv in
-    let p = c .before .before .before .before .before .before .pre in
-    (p .0, p .1, p .2, l .0, omega arith)
+    let turn = c .before .before .before in
+    let p = turn .before .before .before .pre in
+    (p .0, p .1, p .2, turn .loop .inv .0, omega arith)
 
 mul-next : tie.Need-mul-next Inv-loop μ-loop
 mul-next c = omega arith
@@ -74,9 +74,9 @@ loop-less c = omega arith
 loop-again : tie.Need-loop-again Inv-loop μ-loop
 unfolding record-of
 loop-again c =
-    let l = c .before .before .before .before .loop in
-    let a = c .before .before .before .before .before .before .before .args in
-    let frames = c .before .before .before .before .before .all-sent .result in (
+    let turn = c .before .before .before .before in let l = turn .loop in
+    let a = turn .before .before .before .args in
+    let frames = turn .before .all-sent .result in (
       omega arith,
       omega arith,
       l .inv .2,

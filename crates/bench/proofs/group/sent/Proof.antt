@@ -22,7 +22,8 @@ unfolding frame-bytes Frame-of view who-in who-as
 returns c h =
     let says = c .before .send .ensures in
     let wrote = says .done (says .answered ∙ h) in
-    let kept = ap (take (frame-size (settings-of (c .before .before .before .args .column .who)) (c .before .before .before .args .column .round))) (wrote .2) ∙ front-value (wrote .0) _ _ (wrote .1 .1) in
+    let column = c .before .before .before .args .column in
+    let kept = ap (take (frame-size (settings-of (column .who)) (column .round))) (wrote .2) ∙ front-value (wrote .0) _ _ (wrote .1 .1) in
     rw kept (wrote .1)
 
 pub sent-spec : {M : Type 1} → statement M

@@ -43,7 +43,7 @@ array-copy-out-column : tie.Need-array-copy-out-column Inv-loop μ-loop
 array-copy-out-column c = omega arith
 
 put-column-requires : tie.Need-put-column-requires Inv-loop μ-loop
-put-column-requires c κs = let s = c .before .before .before .before .before .before in omega (arith, s .pre, c .before .before .before .before .loop .inv)
+put-column-requires c κs = let l = c .before .before .before .before in omega (arith, l .before .before .pre, l .loop .inv)
 
 add-number : tie.Need-add-number Inv-loop μ-loop
 add-number c = omega arith
@@ -54,10 +54,11 @@ loop-less c = omega arith
 loop-again : tie.Need-loop-again Inv-loop μ-loop
 unfolding All-finished record-of
 loop-again c =
-    let s = c .before .before .before .before .before .before .before .before .before in
-    let a = s .args in
-    let l = c .before .before .before .before .before .before .before .loop in
-    let put = c .before .before .put-column in (
+    let line = c .before .before in
+    let turn = line .before .before .before .before .before in
+    let s = turn .before .before in let a = s .args in
+    let l = turn .loop in
+    let put = line .put-column in (
       omega arith,
       omega arith,
       omega (arith, put .ensures .1, l .inv .2),

@@ -20,7 +20,7 @@ put-group-requires c κs = let s = c .before .before in let sizes = small _ _ _ 
 
 put-columns-requires : tie.Need-put-columns-requires
 unfolding listing-room
-put-columns-requires c κs = let s = c .before .before .before .before .before .before in let sizes = small _ _ _ (s .pre .0 .2) in let group = c .before .before .before .put-group in omega (arith, sizes, s .pre .1, group .ensures .1, group .kept .0)
+put-columns-requires c κs = let group = c .before .before .before in let s = group .before .before .before in omega (arith, small _ _ _ (s .pre .0 .2), s .pre .1, group .put-group .ensures .1, group .put-group .kept .0)
 
 same-length : tie.Need-same-length
 same-length c = search needs
@@ -28,11 +28,13 @@ same-length c = search needs
 returns : tie.Need-returns
 unfolding listing
 returns c file f h finished =
-    let a = c .before .before .before .before .before .before .before .before .before .args in
+    let lines = c .before .before in
+    let group = lines .before .before .before .before in
+    let a = group .before .before .before .args in
     let held : ℕ → List Held = λ k. record-of (a .columns) k .found .held in
     let n = columns f (a .places) (h .settings) in
     put-alike (ap₂ _++_ (ap group-line (sym (h .settings))) (ap (λ (k : ℕ). column-lines f held k 1) (sym n)))
-    (puts (omega arith) (c .before .before .before .before .before .before .put-group .ensures .0) (c .before .before .put-columns .ensures file f h finished))
+    (puts (omega arith) (group .put-group .ensures .0) (lines .put-columns .ensures file f h finished))
 
 pub put-listing-spec : {M : Type 1} → statement M
 put-listing-spec = tie.close (tie.spec put-group-requires put-columns-requires same-length returns)

@@ -27,8 +27,7 @@ add-body c =
 
 with-own-requires : tie.Need-with-own-requires
 with-own-requires c κs =
-    let s = c .before .before .before in
-    let a = s .args in
+    let s = c .before .before .before in let a = s .args in
     let k = s .pre .2 in
     let r = own-read _ (a .places) _ (a .at) (k .located .settings) (k .located .fine) (k .inside) (k .fine) (k .begins .command ∙ c .if1 .taken) in
     omega (arith, k .begins .first, r .low, r .high, small _ _ _ (k .located) .few-columns)
@@ -54,8 +53,7 @@ heading-of-requires c κs = search needs
 with-message-requires : tie.Need-with-message-requires
 unfolding message-in message
 with-message-requires c κs =
-    let s = c .before .before .before .before in
-    let a = s .args in
+    let s = c .before .before .before .before in let a = s .args in
     let f = s .pre .1 in
     let k = s .pre .2 in
     let r = message-read _ f (a .at) (k .inside) (k .fine) (λ z. c .before .if1 .left (sym (k .begins .command) ∙ z)) (k .goes-on) in

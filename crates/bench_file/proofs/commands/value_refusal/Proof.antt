@@ -38,8 +38,7 @@ own :
     let a = c .before .before .before .before .args in value-fault (a .file .now) (a .at) (a .command) (a .w) ≡ cond (c .is-blank .result) 6 0
 unfolding value-fault blank-refusal line
 own c =
-    let left = c .before .before in
-    let a = left .before .before .args in
+    let left = c .before .before in let a = left .before .before .args in
     let size : a .at + 2 + a .w - (a .at + 2) ≡ a .w = omega arith in
     simp (eq-eqb (a .command) 4 (left .if1 .left), c .is-blank .ensures, size)
 
