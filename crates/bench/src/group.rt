@@ -2,21 +2,19 @@
 ghost use mathlib.Core.Path.{_≡_};
 ghost use mathlib.Core.List.{List, _++_};
 ghost use mathlib.Core.Option.{some};
-ghost use Prim.Native.Nat.{ℕ, _+_, _≤_, _<_};
+ghost use Prim.Native.Nat.{ℕ, _+_, _≤_};
 ghost use lib.ListN.{length, take};
-ghost use Rattle.code.specs.Settings.{settings};
 ghost use Rattle.code.specs.Size.{most-columns, checks-room};
 ghost use Rattle.grading.specs.Value.{Value};
 ghost use Rattle.record.specs.Frame.{header-size, header, longest-frame};
 ghost use Rattle.record.specs.Record.{opened as «opened-as»};
-ghost use Rattle.record.specs.Refusal.{send-refusal};
-ghost use Rattle.column.specs.Call.{after-take, Run, Frame-of};
-ghost use Rattle.record.specs.View.{settings-of, view};
+ghost use Rattle.column.specs.Call.{after-take, Run};
+ghost use Rattle.record.specs.View.{view};
 ghost use Rattle.bench_file.specs.Scenario.{Scenario, own-of};
 ghost use Rattle.bench.specs.Group.{bench-run, heard-in, round-calls};
-ghost use Rattle.bench_file.specs.Steps.Places.{Located, Places-of};
+ghost use Rattle.bench_file.specs.Steps.Places.{Message-range, Located, Places-of};
 ghost use Rattle.bench.specs.Steps.Finished.{record-of};
-ghost use Rattle.bench.specs.Steps.Running.{After-hearing, frame-bytes, frame-at, Round-run, Group-ran};
+ghost use Rattle.bench.specs.Steps.Running.{After-hearing, frame-bytes, Sends, frame-at, Round-run, Group-ran};
 use crate::printing;
 use bench_file::places;
 use bench_file::places::Places;
@@ -72,7 +70,7 @@ pub struct Frame {
 
 // The frame of a column's round.
 fn sent(column: Column) -> Frame
-    ensures { λ r. ⌜ (send-refusal (view column) longest-frame ≡ 0 → Frame-of (view column) (frame-bytes (settings-of (column .who)) (column .round) r)) ⌝ }
+    ensures { λ r. ⌜ Sends (view column) r ⌝ }
 {
     let mut bytes = [0u8; LONGEST_FRAME];
     column::send(column, &mut bytes);
@@ -81,7 +79,7 @@ fn sent(column: Column) -> Frame
 
 fn all_sent(n: u32, columns: [Column; MOST_COLUMNS]) -> [Frame; MOST_COLUMNS]
     requires { ⌜ n ≤ most-columns ⌝ }
-    ensures { λ r. ⌜ ((k : ℕ) → 1 ≤ k → k ≤ n → send-refusal (record-of columns k) longest-frame ≡ 0 → Frame-of (record-of columns k) (frame-bytes (record-of columns k .who .settings) (record-of columns k .round) (frame-at r k))) ⌝ }
+    ensures { λ r. ⌜ ((k : ℕ) → 1 ≤ k → k ≤ n → Sends (record-of columns k) (frame-at r k)) ⌝ }
 {
     let none = Frame {
         bytes: [0u8; LONGEST_FRAME],
@@ -128,7 +126,7 @@ fn heard_at(
     to: u32,
     column: Column,
 ) -> Column
-    requires { ⌜ Places-of (now file) places × (1 ≤ round) × (round ≤ 3) × (1 ≤ slot) × (slot ≤ most-columns) × (1 ≤ to) × (to ≤ most-columns) ⌝ }
+    requires { ⌜ Places-of (now file) places × Message-range round slot to ⌝ }
     ensures { λ r. ⌜ ((f : Scenario) (frames : ℕ → List ℕ) → Located (now (file .entry)) places f → frames slot ≡ frame-bytes (f .settings) round frame → After-hearing slot (heard-in f frames round to slot) (view column) (view r)) ⌝ }
 {
     if slot == to {

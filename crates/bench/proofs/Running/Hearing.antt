@@ -1,6 +1,6 @@
--- What a good column hears in a slot, by the places of the file, and the calls of a round slot by slot: what is heard in a slot and the
--- calls behind it are one run. Lists of columns and frames that are filled one by one. Assumes nothing.
-use mathlib.Core.Path.{_≡_, refl, sym, ap, subst}
+-- What a good column hears in a slot, and the calls of a round slot by slot: what is heard in a slot and the calls behind it are one run.
+-- Lists of columns and frames that are filled one by one. Assumes nothing.
+use mathlib.Core.Path.{_≡_, refl, sym, subst}
 use mathlib.Core.Bool.{Bool, true, false}
 use mathlib.Core.List.{List, [], _++_}
 use mathlib.Core.Option.{Option, none, some}
@@ -8,7 +8,7 @@ use Prim.Native.Nat.{ℕ, suc, _+_, _-_, _≤_, _<_}
 use native.Mathlib.Numerals.{add-one}
 use native.Mathlib.Omega.{arith}
 use lib.Dec.{eqb}
-use lib.ListN.{length, getD, set, take, drop}
+use lib.ListN.{length, getD, set}
 use lib.Seq.{getD-set-same, getD-set-other}
 use borrow.Author.Tests.{eqb-true, eqb-false, eq-eqb, ne-eqb}
 use Rattle.record.specs.Frame.{header}
@@ -16,24 +16,7 @@ use Rattle.record.specs.Record.{Rec}
 use Rattle.column.specs.Call.{Call, taking, closing, Leads, Run, no-call, one-call}
 use Rattle.bench_file.specs.Scenario.{Scenario, is-good, message-of}
 use Rattle.bench.specs.Group.{bench-run, framed, heard-in, taking-first, calls-from}
-use Rattle.bench_file.specs.Steps.Places.{Bytes-at}
 use Rattle.bench.specs.Steps.Running.{After-hearing}
-
--- places
-pub bytes-at-inside : (file : List ℕ) (size at : ℕ) (x : Option (List ℕ)) → Bytes-at file size at x → (at ≡ 0 → ⊥) → at + size ≤ length file
-unfolding Bytes-at
-bytes-at-inside file size at none s h = absurd (h s)
-bytes-at-inside file size at (some x) s h = s .1
-
-pub bytes-at-none : (file : List ℕ) (size at : ℕ) (x : Option (List ℕ)) → Bytes-at file size at x → at ≡ 0 → x ≡ none
-unfolding Bytes-at
-bytes-at-none file size at none s h = refl
-bytes-at-none file size at (some x) s h = absurd (s .0 h)
-
-pub bytes-at-some : (file : List ℕ) (size at : ℕ) (x : Option (List ℕ)) → Bytes-at file size at x → (at ≡ 0 → ⊥) → x ≡ some (take size (drop at file))
-unfolding Bytes-at
-bytes-at-some file size at none s h = absurd (h s)
-bytes-at-some file size at (some x) s h = ap some (s .2)
 
 -- what is heard
 module _ (f : Scenario) (frames : ℕ → List ℕ) (m l k : ℕ) where

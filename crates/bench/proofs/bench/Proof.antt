@@ -18,7 +18,7 @@ parse-requires c κs = search needs
 
 put-refused-requires : tie.Need-put-refused-requires
 unfolding listing-room
-put-refused-requires c κs = omega (arith, answer-small _ _ _ _ (c .before .before .before .parse .ensures), c .before .before .before .before .if1 .left)
+put-refused-requires c κs = let read = c .before .before .before in omega (arith, answer-small _ _ _ _ (read .parse .ensures), read .before .if1 .left)
 
 same-length : tie.Need-same-length
 same-length c = search needs

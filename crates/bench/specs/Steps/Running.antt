@@ -28,6 +28,10 @@ frame-past = record { bytes = [] }
 unfoldable pub frame-bytes : Settings → (round : ℕ) → Frame → List ℕ
 frame-bytes s m x = take (frame-size s m) (x .bytes)
 
+-- the frame of a column's round in front of an array, where sending is not refused
+unfoldable pub Sends : Rec → Frame → Type 0
+Sends r x = send-refusal r longest-frame ≡ 0 → Frame-of r (frame-bytes (r .who .settings) (r .round) x)
+
 -- the frame of a column, of all that were sent
 unfoldable pub frame-at : List Frame → (column : ℕ) → Frame
 frame-at xs k = getD xs (k - 1) frame-past

@@ -8,7 +8,7 @@ use native.Mathlib.Omega.{arith}
 use lib.Dec.{eqb, leb, ltb}
 use lib.ListN.{length, getD, drop}
 use borrow.Author.Tests.{eq-eqb, ne-eqb, ltb-false, lt-ltb, le-ltb}
-use Rattle.code.specs.Settings.{Settings, settings, settings-refusal}
+use Rattle.code.specs.Settings.{Settings, settings-refusal}
 use Rattle.grading.specs.Value.{is-blank}
 use Rattle.grading.proofs.Bool.{or-false}
 use Rattle.record.specs.Refusal.{line, first-of, blank-refusal}

@@ -27,13 +27,22 @@ most-messages = 3 * most-columns * most-columns
 unfoldable pub message-index : (round from to : ℕ) → ℕ
 message-index m k l = (m - 1) * (most-columns * most-columns) + ((k - 1) * most-columns + (l - 1))
 
+-- round, sender and reader of a message that there may be
+pub record Message-range (round from to : ℕ) : Type 0 where
+  pub round-low : 1 ≤ round
+  pub round-high : round ≤ 3
+  pub from-low : 1 ≤ from
+  pub from-high : from ≤ most-columns
+  pub to-low : 1 ≤ to
+  pub to-high : to ≤ most-columns
+
 -- the places of all that was said so far; an own value can be opened with
 pub record Located (file : List ℕ) (p : Places) (f : Scenario) : Type 0 where
   pub settings : f .settings ≡ settings (p .n) (p .t) (p .w)
   pub fine : settings-refusal (f .settings) ≡ 0
   pub owns : (k : ℕ) → 1 ≤ k → k ≤ most-columns → Bytes-at file (p .w) (getD (p .owns) (k - 1) 0) (own-of (f .owns) k)
   pub messages :
-      (m k l : ℕ) → 1 ≤ m → m ≤ 3 → 1 ≤ k → k ≤ most-columns → 1 ≤ l → l ≤ most-columns →
+      (m k l : ℕ) → Message-range m k l →
       Bytes-at file (operand-size (f .settings) m) (getD (p .messages) (message-index m k l) 0) (message-of (f .messages) m k l)
   pub late : no-message (f .messages) ≡ not (p .late)
   pub opens : (k : ℕ) (v : Value) → own-of (f .owns) k ≡ some v → open-refusal (f .settings) k v ≡ 0

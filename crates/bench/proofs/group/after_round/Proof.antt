@@ -46,9 +46,9 @@ array-copy-out-frame c = omega arith
 
 heard-at-requires : tie.Need-heard-at-requires Inv-loop μ-loop
 heard-at-requires c κs =
-    let l = c .before .before .before .loop .inv in
-    let p = c .before .before .before .before .before .pre in
-    (p .0, p .1, p .2, l .0, omega arith, p .3, p .4)
+    let turn = c .before .before .before in
+    let p = turn .before .before .pre in
+    (p .0, omega (arith, p, turn .loop .inv))
 
 add-slot : tie.Need-add-slot Inv-loop μ-loop
 add-slot c = omega arith

@@ -13,8 +13,8 @@ use Rattle.record.specs.View.{view}
 use Rattle.bench_file.specs.Scenario.{Scenario}
 use Rattle.bench_file.specs.Steps.Places.{Located, Places-of}
 use Rattle.bench.specs.Steps.Running.{After-hearing, frame-bytes}
-use Rattle.bench.proofs.Running.Hearing.{bytes-at-inside, bytes-at-none, bytes-at-some, heard-own, heard-good, heard-missing, heard-message}
-use Rattle.bench_file.proofs.Located.{small}
+use Rattle.bench.proofs.Running.Hearing.{heard-own, heard-good, heard-missing, heard-message}
+use Rattle.bench_file.proofs.Located.{bytes-at-inside, bytes-at-none, bytes-at-some, small}
 use Rattle.bench.proofs.group.heard_at.Statement.{statement}
 use Rattle.bench.proofs.group.heard_at.Tie as tie
 
@@ -37,12 +37,10 @@ after-taking-requires c κs = search needs
 
 -- the size is the operand's of the round
 size-as :
-    (c : tie.After-operand-size) (f : Scenario) → Located (c .before .before .before .args .file .now) (c .before .before .before .args .places) f →
-    c .operand-size .result ≡ operand-size (f .settings) (c .before .before .before .args .round)
+    (c : tie.After-operand-size) (f : Scenario) →
+    let a = c .before .before .before .args in Located (a .file .now) (a .places) f → c .operand-size .result ≡ operand-size (f .settings) (a .round)
 unfolding operand-size value-size check-count settings
-size-as c f h =
-    let a = c .before .before .before .args in
-    c .operand-size .ensures .0 ∙ ap (λ (s : Settings). operand-size s (a .round)) (sym (h .settings))
+size-as c f h = c .operand-size .ensures .0 ∙ ap (λ (s : Settings). operand-size s (c .before .before .before .args .round)) (sym (h .settings))
 
 returns-2 : tie.Need-returns-2
 unfolding After-hearing frame-bytes frame-size

@@ -13,7 +13,7 @@ use Rattle.bench_file.specs.Scenario.{Scenario}
 use Rattle.bench.specs.Group.{round-calls}
 use Rattle.bench_file.specs.Steps.Places.{Located, Places-of}
 use Rattle.bench.specs.Steps.Finished.{record-of, column-past}
-use Rattle.bench.specs.Steps.Running.{frame-bytes, frame-at}
+use Rattle.bench.specs.Steps.Running.{frame-bytes, Sends, frame-at}
 use Rattle.bench_file.proofs.Located.{small}
 use Rattle.bench_file.proofs.OneCommand.Readings.{columns as columns-as}
 use Rattle.bench.proofs.Running.Hearing.{set-cases}
@@ -89,6 +89,7 @@ loop-again c =
     )
 
 returns : tie.Need-returns Inv-loop μ-loop
+unfolding Sends
 returns c f h =
     let l = c .before .before .loop in
     let a = c .before .before .before .before .before .args in

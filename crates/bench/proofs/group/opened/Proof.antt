@@ -50,7 +50,7 @@ cast-k : tie.Need-cast-k Inv-loop μ-loop
 cast-k c = omega arith
 
 opened-at-requires : tie.Need-opened-at-requires Inv-loop μ-loop
-opened-at-requires c κs = let l = c .before .before .loop .inv in (c .before .before .before .before .before .pre, l .0, omega arith)
+opened-at-requires c κs = let turn = c .before .before in (turn .before .before .before .pre, turn .loop .inv .0, omega arith)
 
 mul-columns : tie.Need-mul-columns Inv-loop μ-loop
 mul-columns c = omega arith

@@ -6,7 +6,7 @@ use Prim.Native.Nat.{ℕ, _+_, _-_, _≤_}
 use native.Mathlib.Omega.{arith}
 use borrow.Author.Needs.{needs}
 use lib.ListN.{length, take, drop}
-use Rattle.code.specs.Settings.{Settings, settings}
+use Rattle.code.specs.Settings.{Settings}
 use Rattle.record.specs.Record.{opened}
 use Rattle.record.specs.Refusal.{open-refusal}
 use Rattle.record.specs.View.{view}
@@ -14,8 +14,7 @@ use Rattle.record.proofs.Refusal.{opens-of}
 use Rattle.record.proofs.View.{view-opened}
 use Rattle.bench.specs.Group.{bench-run}
 use Rattle.bench_file.specs.Steps.Places.{Places-of}
-use Rattle.bench.proofs.Running.Hearing.{bytes-at-inside, bytes-at-none, bytes-at-some}
-use Rattle.bench_file.proofs.Located.{none-some}
+use Rattle.bench_file.proofs.Located.{bytes-at-inside, bytes-at-none, bytes-at-some, none-some}
 use Rattle.bench.proofs.group.opened_at.Statement.{statement}
 use Rattle.bench.proofs.group.opened_at.Tie as tie
 

@@ -7,7 +7,7 @@ use Rattle.record.specs.View.{settings-of, who-in, view}
 use Rattle.column.specs.Call.{Frame-of}
 use Rattle.record.proofs.Front.{front-value}
 use Rattle.record.specs.Frame.{frame-size}
-use Rattle.bench.specs.Steps.Running.{frame-bytes}
+use Rattle.bench.specs.Steps.Running.{frame-bytes, Sends}
 use Rattle.bench.proofs.group.sent.Statement.{statement}
 use Rattle.bench.proofs.group.sent.Tie as tie
 
@@ -18,7 +18,7 @@ send-requires : tie.Need-send-requires
 send-requires c κs = search needs
 
 returns : tie.Need-returns
-unfolding frame-bytes Frame-of view who-in who-as
+unfolding Sends frame-bytes Frame-of view who-in who-as
 returns c h =
     let says = c .before .send .ensures in
     let wrote = says .done (says .answered ∙ h) in

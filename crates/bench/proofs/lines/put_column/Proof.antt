@@ -3,10 +3,9 @@ use mathlib.Core.Path.{sym, _∙_, ap}
 use native.Mathlib.Omega.{arith}
 use borrow.Author.Tests.{not-true, not-false}
 use borrow.Author.Needs.{needs}
-use Rattle.code.specs.Settings.{settings, Settings}
+use Rattle.code.specs.Settings.{Settings}
 use Rattle.grading.specs.Held.{held-in}
 use Rattle.bench.specs.Listing.{column-line}
-use Rattle.bench_file.specs.Scenario.{is-good}
 use Rattle.bench.proofs.Listing.Text.{put-nothing, put-alike}
 use Rattle.bench.proofs.Listing.Wording.{line-short, held-alike}
 use Rattle.bench.proofs.lines.put_column.Statement.{statement}

@@ -3,7 +3,6 @@ use mathlib.Core.Path.{_≡_, refl, sym, _∙_, ap}
 use mathlib.Core.List.{List, [], _∷_}
 use Prim.Native.Nat.{ℕ, _+_, _-_, _≤_, _<_}
 use native.Mathlib.Omega.{arith}
-use denote.Ref.{now}
 use lib.ListN.{length, getD, drop, length-append, drop-of-length-le}
 use Rattle.bench.specs.Listing.{decimal, pointed, joined}
 use Rattle.bench.proofs.Listing.Text.{Left, left-all, left-room, left-more, left-none, next-fits, put-nothing, put-alike, puts}

@@ -8,7 +8,7 @@ use Rattle.record.specs.Frame.{operand-size}
 use Rattle.record.specs.Refusal.{open-refusal}
 use Rattle.bench_file.specs.Command.{command-in, head-size, command-size, message-in, body-in}
 use Rattle.bench_file.specs.Scenario.{Message, message, with-own, with-message}
-use Rattle.bench_file.specs.Steps.Places.{Located}
+use Rattle.bench_file.specs.Steps.Places.{Bytes-at, Located}
 use Rattle.bench_file.proofs.Located.{small}
 use Rattle.bench_file.proofs.OneCommand.Readings.{columns, own-read, message-read, same-message, command-fits}
 use Rattle.bench_file.proofs.commands.after_command.Statement.{statement}
@@ -33,7 +33,7 @@ with-own-requires c κs =
     omega (arith, k .begins .first, r .low, r .high, small _ _ _ (k .located) .few-columns)
 
 returns : tie.Need-returns
-unfolding head-size
+unfolding head-size Bytes-at
 returns c file f k =
     let a = c .before .before .before .before .args in
     let h = k .located in
@@ -43,8 +43,8 @@ returns c file f k =
     ap (λ (i : ℕ). a .at + i) (c .before .before .before .head-size .ensures .0 ∙ ap head-size (c .before .if1 .taken)) in
     let v = body-in (f .settings) (drop (a .at) file) in
     let more =
-    c .with-own .ensures file f v h (λ z. omega (arith, z, body)) (omega (arith, body, r .size))
-    (r .value ∙ ap (λ (i : ℕ). take (a .places .w) (drop i file)) (sym body)) (ap (λ (i : ℕ). open-refusal (f .settings) i v) column ∙ r .opens) in
+    c .with-own .ensures file f v h ((λ z. omega (arith, z, body)), omega (arith, body, r .size), r .value ∙ ap (λ (i : ℕ). take (a .places .w) (drop i file)) (sym body))
+    (ap (λ (i : ℕ). open-refusal (f .settings) i v) column ∙ r .opens) in
     rw (r .after) (subst (λ (i : ℕ). Located file (c .with-own .result) (with-own f i v)) column more)
 
 heading-of-requires : tie.Need-heading-of-requires
@@ -64,7 +64,7 @@ with-message-requires c κs =
     (arith, head .0, head .1, head .2, n, columns, r .round-low, r .round-high, r .columns .from-low, r .columns .from-high, r .columns .to-low, r .columns .to-high)
 
 returns-2 : tie.Need-returns-2
-unfolding message-in message
+unfolding message-in message Bytes-at
 returns-2 c file f k =
     let a = c .before .before .before .before .before .args in
     let command = k .begins .command in
@@ -75,10 +75,12 @@ returns-2 c file f k =
     ap (λ (i : ℕ). a .at + i) (c .before .before .before .before .head-size .ensures .0 ∙ ap head-size (sym command)) in
     let size = ap (operand-size (f .settings)) (head .0) in
     let more =
-    c .with-message .ensures file f (m .operand) (k .located) (λ z. omega (arith, z, c .before .before .before .before .head-size .ensures .1))
-    (omega (arith, body, size, r .size))
-    (r .operand ∙ ap (λ (i : ℕ). take i (drop (a .at + head-size (command-in (drop (a .at) file))) file)) (sym size)
-    ∙ ap (λ (i : ℕ). take (operand-size (f .settings) (c .before .heading-of .result .round)) (drop i file)) (sym body)) in
+    c .with-message .ensures file f (m .operand) (k .located) (
+      (λ z. omega (arith, z, c .before .before .before .before .head-size .ensures .1)),
+      omega (arith, body, size, r .size),
+      r .operand ∙ ap (λ (i : ℕ). take i (drop (a .at + head-size (command-in (drop (a .at) file))) file)) (sym size)
+          ∙ ap (λ (i : ℕ). take (operand-size (f .settings) (c .before .heading-of .result .round)) (drop i file)) (sym body),
+    ) in
     rw (r .after) (subst (λ (x : Message). Located file (c .with-message .result) (with-message f x)) (same-message (head .0) (head .1) (head .2)) more)
 
 pub after-command-spec : {M : Type 1} → statement M

@@ -41,8 +41,9 @@ operand-refusal-requires c κs =
 returns-2 : tie.Need-returns-2
 unfolding command-refusal
 returns-2 c f h =
-    let b = c .before .before .before .before .before .pre .2 in
-    sym (first-of-next _ (sym (form (c .before .before .before) f h) ∙ c .before .before .if1 .left) (first-of-here _ (sym (c .before .operand-refusal .ensures _ f _ h b)) (c .if2 .taken)))
+    let formed = c .before .before in
+    let b = formed .before .before .before .pre .2 in
+    sym (first-of-next _ (sym (form (formed .before) f h) ∙ formed .if1 .left) (first-of-here _ (sym (c .before .operand-refusal .ensures _ f _ h b)) (c .if2 .taken)))
 
 value-refusal-requires : tie.Need-value-refusal-requires
 unfolding Places-of

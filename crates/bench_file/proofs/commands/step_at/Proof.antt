@@ -26,7 +26,8 @@ returns c f h = (c .before .command-refusal .ensures f h, c .if1 .taken)
 returns-2 : tie.Need-returns-2
 unfolding Stepped
 returns-2 c f h =
-    (sym (c .before .before .before .command-refusal .ensures f h) ∙ c .before .before .if1 .left, c .before .before .before .before .head-at .ensures .command ∙ c .if2 .taken, h)
+    let fine = c .before .before in
+    (sym (fine .before .command-refusal .ensures f h) ∙ fine .if1 .left, fine .before .before .head-at .ensures .command ∙ c .if2 .taken, h)
 
 command-size-requires : tie.Need-command-size-requires
 unfolding Places-of

@@ -16,7 +16,7 @@ returns c file h =
       settings = refl;
       fine = h;
       owns = λ k l m. zeros-at most-columns (k - 1);
-      messages = λ m k l ml mh kl kh ll lh. zeros-at most-messages (message-index m k l);
+      messages = λ m k l range. zeros-at most-messages (message-index m k l);
       late = refl;
       opens = λ k v e. none-some e;
     }
