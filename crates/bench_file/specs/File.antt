@@ -10,7 +10,7 @@ use Rattle.record.specs.Refusal.{first-of}
 use Rattle.bench_file.specs.Scenario.{Scenario, only-settings}
 use Rattle.bench_file.specs.Command.{command-in, command-size, command-refusal, after-command}
 
--- what a file comes to: turned down by a number, or all that it says
+-- what a file parses to: turned down by a number, or the scenario that it says
 pub data Parse : Type 0 where
   refused : (number : ℕ) → Parse
   parsed : Scenario → Parse

@@ -24,7 +24,7 @@ pub record Message : Type 0 where
 unfoldable pub message : (round from to : ℕ) → (operand : List ℕ) → Message
 message m k l x = record { round = m; from = k; to = l; operand = x }
 
--- what the commands read so far have said, the last one first
+-- a scenario: what the commands read so far have said, the last one first
 pub record Scenario : Type 0 where
   pub settings : Settings
   pub owns : List Own
