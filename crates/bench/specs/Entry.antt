@@ -6,7 +6,7 @@ use lib.ListN.{length}
 use Rattle.code.specs.Size.{most-columns}
 use Rattle.code.specs.Entry.{in-front}
 use Rattle.record.specs.Record.{Rec}
-use Rattle.bench_file.specs.File.{Told, refused, said, file-told}
+use Rattle.bench_file.specs.File.{Parse, refused, parsed, parse-file}
 use Rattle.bench.specs.Group.{Group-run}
 use Rattle.bench.specs.Listing.{listing, refused-line}
 
@@ -20,9 +20,9 @@ unfoldable pub listing-room : ℕ
 listing-room = 14 + most-columns * line-room
 
 -- the output for what a file comes to: "refused N" and nothing else, or the listing of the group's run
-unfoldable pub Printed : Told → (text : List ℕ) → Type 0
+unfoldable pub Printed : Parse → (text : List ℕ) → Type 0
 Printed (refused n) text = text ≡ refused-line n
-Printed (said f) text =
+Printed (parsed f) text =
     (records : (round column : ℕ) → Rec) × (frames : (round column : ℕ) → List ℕ) × Group-run f records frames
     × (text ≡ listing f (λ k. records 4 k .found .held))
 
@@ -32,4 +32,4 @@ pub record Bench-says (file output : List ℕ) (answer : ℕ) (output-now : List
   pub short : length output < listing-room → (answer ≡ 0) × (output-now ≡ output)
   pub printed :
       listing-room ≤ length output →
-      (text : List ℕ) × Printed (file-told file) text × (answer ≡ length text) × (output-now ≡ in-front text output)
+      (text : List ℕ) × Printed (parse-file file) text × (answer ≡ length text) × (output-now ≡ in-front text output)

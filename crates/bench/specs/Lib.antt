@@ -2,6 +2,4 @@ pub mod Group
 pub mod Listing
 pub mod Entry
 pub mod Promise
-pub mod Printing
-pub mod Finished
-pub mod Running
+pub mod Steps

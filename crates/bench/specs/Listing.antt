@@ -6,7 +6,7 @@ use lib.Dec.{ltb}
 use Rattle.code.specs.Settings.{Settings}
 use Rattle.grading.specs.Value.{Value, is-blank}
 use Rattle.grading.specs.Held.{Held}
-use Rattle.bench_file.specs.Said.{Said, is-good}
+use Rattle.bench_file.specs.Scenario.{Scenario, is-good}
 
 -- one decimal digit
 unfoldable pub digit : ℕ → List ℕ
@@ -51,12 +51,12 @@ group-line s =
     ++ (decimal (s .n) ++ ((32 ∷ decimal (s .t)) ++ ((32 ∷ decimal (s .w)) ++ (10 ∷ []))))
 
 -- the lines of the good columns among so many from column k on
-unfoldable pub column-lines : Said → (held : ℕ → List Held) → (many k : ℕ) → List ℕ
+unfoldable pub column-lines : Scenario → (held : ℕ → List Held) → (many k : ℕ) → List ℕ
 column-lines f held zero k = []
 column-lines f held (suc n) k = cond (is-good f k) (column-line k (held k)) [] ++ column-lines f held n (suc k)
 
 -- the settings, then a line for each good column
-unfoldable pub listing : Said → (held : ℕ → List Held) → List ℕ
+unfoldable pub listing : Scenario → (held : ℕ → List Held) → List ℕ
 listing f held = group-line (f .settings) ++ column-lines f held (f .settings .n) 1
 
 -- "refused N"

@@ -6,19 +6,19 @@ use Prim.Native.Nat.{ℕ}
 use Rattle.grading.specs.Value.{Value}
 use Rattle.record.specs.Record.{Rec}
 use Rattle.record.specs.Refusal.{open-refusal}
-use Rattle.bench_file.specs.Said.{Said, own-of}
+use Rattle.bench_file.specs.Scenario.{Scenario, own-of}
 use Rattle.bench.specs.Group.{Group-run}
 use Rattle.bench.specs.Listing.{listing}
-use Rattle.bench_file.specs.File.{file-told}
+use Rattle.bench_file.specs.File.{parse-file}
 use Rattle.bench.specs.Entry.{Printed}
 
 -- a group whose own values can be opened with has one listing, however its run is worked out
 unfoldable pub One-listing : Type 0
 One-listing =
-    (f : Said) (records others : (round column : ℕ) → Rec) (frames sent : (round column : ℕ) → List ℕ) →
+    (f : Scenario) (records others : (round column : ℕ) → Rec) (frames sent : (round column : ℕ) → List ℕ) →
     ((k : ℕ) (v : Value) → own-of (f .owns) k ≡ some v → open-refusal (f .settings) k v ≡ 0) → Group-run f records frames →
     Group-run f others sent → listing f (λ k. records 4 k .found .held) ≡ listing f (λ k. others 4 k .found .held)
 
 -- the bench has one output for a file
 unfoldable pub One-output : Type 0
-One-output = (file a b : List ℕ) → Printed (file-told file) a → Printed (file-told file) b → a ≡ b
+One-output = (file a b : List ℕ) → Printed (parse-file file) a → Printed (parse-file file) b → a ≡ b

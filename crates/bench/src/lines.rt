@@ -8,12 +8,12 @@ ghost use Rattle.code.specs.Settings.{settings};
 ghost use Rattle.code.specs.Size.{most-columns, value-room};
 ghost use Rattle.grading.specs.Held.{held-as, held-in};
 ghost use Rattle.record.specs.View.{view};
-ghost use Rattle.bench_file.specs.Said.{Said, is-good};
+ghost use Rattle.bench_file.specs.Scenario.{Scenario, is-good};
 ghost use Rattle.bench.specs.Listing.{joined, value-text, held-text, holdings-text, column-line, group-line, column-lines, listing, refused-line};
 ghost use Rattle.bench.specs.Entry.{line-room, listing-room};
-ghost use Rattle.bench.specs.Printing.{Put};
-ghost use Rattle.bench_file.specs.Places.{Located};
-ghost use Rattle.bench.specs.Finished.{Finished, All-finished, record-of};
+ghost use Rattle.bench.specs.Steps.Printing.{Put};
+ghost use Rattle.bench_file.specs.Steps.Places.{Located};
+ghost use Rattle.bench.specs.Steps.Finished.{Finished, All-finished, record-of};
 use crate::printing;
 use bench_file::places;
 use bench_file::places::Places;
@@ -104,7 +104,7 @@ fn put_line(
 // The line of a column that has finished, where it is a good one.
 fn put_column(output: &mut [u8], at: usize, places: Places, number: u32, column: Column) -> usize
     requires { ⌜ (1 ≤ number) × (number ≤ most-columns) × (places .n ≤ most-columns) × (places .w ≤ value-room) × (at + line-room ≤ length (now output)) ⌝ }
-    ensures { λ r. ⌜ ((file : List ℕ) (f : Said) → Located file places f → (is-good f number ≡ true → Finished (f .settings) column) → Put at (cond (is-good f number) (column-line number (view column .found .held)) []) (now (output .entry)) r (now (output .exit))) ⌝ }
+    ensures { λ r. ⌜ ((file : List ℕ) (f : Scenario) → Located file places f → (is-good f number ≡ true → Finished (f .settings) column) → Put at (cond (is-good f number) (column-line number (view column .found .held)) []) (now (output .entry)) r (now (output .exit))) ⌝ }
     ensures within { λ r. ⌜ r ≤ at + line-room ⌝ }
 {
     if !places::is_good(places, number) {
@@ -126,7 +126,7 @@ fn put_columns(
     columns: [Column; MOST_COLUMNS],
 ) -> usize
     requires { ⌜ (places .n ≤ most-columns) × (places .w ≤ value-room) × (at + most-columns * line-room ≤ length (now output)) ⌝ }
-    ensures { λ r. ⌜ ((file : List ℕ) (f : Said) → Located file places f → All-finished f columns → Put at (column-lines f (λ k. record-of columns k .found .held) (places .n) 1) (now (output .entry)) r (now (output .exit))) ⌝ }
+    ensures { λ r. ⌜ ((file : List ℕ) (f : Scenario) → Located file places f → All-finished f columns → Put at (column-lines f (λ k. record-of columns k .found .held) (places .n) 1) (now (output .entry)) r (now (output .exit))) ⌝ }
 {
     let mut next = at;
     let mut number = 1;
@@ -154,8 +154,8 @@ fn put_group(output: &mut [u8], n: u32, t: u32, w: u32) -> usize
 
 // The settings, and a line for each good column.
 pub fn put_listing(output: &mut [u8], places: Places, columns: [Column; MOST_COLUMNS]) -> usize
-    requires { ⌜ ((file : List ℕ) × (f : Said) × Located file places f) × (listing-room ≤ length (now output)) ⌝ }
-    ensures { λ r. ⌜ ((file : List ℕ) (f : Said) → Located file places f → All-finished f columns → Put 0 (listing f (λ k. record-of columns k .found .held)) (now (output .entry)) r (now (output .exit))) ⌝ }
+    requires { ⌜ ((file : List ℕ) × (f : Scenario) × Located file places f) × (listing-room ≤ length (now output)) ⌝ }
+    ensures { λ r. ⌜ ((file : List ℕ) (f : Scenario) → Located file places f → All-finished f columns → Put 0 (listing f (λ k. record-of columns k .found .held)) (now (output .entry)) r (now (output .exit))) ⌝ }
 {
     let first = put_group(output, places.n, places.t, places.w);
     put_columns(output, first, places, columns)

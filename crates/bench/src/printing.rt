@@ -3,7 +3,7 @@ ghost use mathlib.Core.List.{[], _∷_};
 ghost use Prim.Native.Nat.{_+_, _≤_, _<_};
 ghost use lib.ListN.{length};
 ghost use Rattle.bench.specs.Listing.{digit, decimal};
-ghost use Rattle.bench.specs.Printing.{Put};
+ghost use Rattle.bench.specs.Steps.Printing.{Put};
 
 pub fn put_byte(output: &mut [u8], at: usize, byte: u8) -> usize
     requires { ⌜ at + 1 ≤ length (now output) ⌝ }

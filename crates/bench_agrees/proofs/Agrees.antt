@@ -5,21 +5,21 @@ use mathlib.Core.List.{List}
 use Prim.Native.Nat.{ℕ}
 use lib.ListN.{length}
 use Rattle.code.specs.Entry.{in-front}
-use Rattle.bench_file.specs.File.{said}
+use Rattle.bench_file.specs.File.{parsed}
 use Rattle.bench.specs.Entry.{Printed}
-use Rattle.bench_file.proofs.Sound.{file-sound}
+use Rattle.bench_file.proofs.WholeFile.Sound.{file-sound}
 use Rattle.bench_agrees.specs.Promise.{Group-agrees, Bench-agrees}
 use Rattle.bench_agrees.proofs.Lines.{group-agrees}
 
 pub bench-agrees : Bench-agrees
 unfolding Bench-agrees Group-agrees Printed
-bench-agrees file output answer output-now f says room told few =
+bench-agrees file output answer output-now f says room parse few =
     let text = says .printed room in
-    let printed : Printed (said f) (text .0) = rw told at (text .1) in (
+    let printed : Printed (parsed f) (text .0) = rw parse at (text .1) in (
       printed .0,
       printed .1,
       printed .2,
       text .2 ∙ ap length (printed .3),
       text .3 ∙ ap (λ (bs : List ℕ). in-front bs output) (printed .3),
-      group-agrees f (printed .0) (printed .1) (file-sound file f told .opens) few (printed .2),
+      group-agrees f (printed .0) (printed .1) (file-sound file f parse .opens) few (printed .2),
     )

@@ -11,7 +11,7 @@ use Rattle.record.specs.Record.{Rec}
 use Rattle.column.specs.Call.{Call, taking, sending, closing, asking, Leads, Run, no-call, one-call, Passes, here, later}
 use Rattle.column.proofs.Step.{after-take-round}
 use Rattle.bench.specs.Group.{taking-first, calls-from}
-use Rattle.bench.proofs.Exchanged.{run-head}
+use Rattle.bench.proofs.Running.Exchanged.{run-head}
 
 -- one list behind another
 pub passes-run : {r z : Rec} {cs : List Call} → Passes r cs z [] → Run r cs z

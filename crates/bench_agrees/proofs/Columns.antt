@@ -13,7 +13,7 @@ use Rattle.code.proofs.Lists.Tests.{and-both}
 use Rattle.grading.specs.Promise.{member, all-different}
 use Rattle.grading.proofs.Bool.{true-not-false}
 use Rattle.gradecast.specs.Promise.{Good, numbers, Among, first, other}
-use Rattle.bench_file.specs.Said.{Said, is-good}
+use Rattle.bench_file.specs.Scenario.{Scenario, is-good}
 use Rattle.bench_agrees.specs.Promise.{bad-from}
 
 among-none : {a : Good} {gs : List Good} → Among a gs → gs ≡ [] → ⊥
@@ -24,7 +24,7 @@ among-cases : (P : Good → Type 0) {a g : Good} {gs : List Good} → Among a (g
 among-cases P (first gs) p further = p
 among-cases P (other h gs i) p further = further i
 
-module _ (f : Said) (good : ℕ → Good) where
+module _ (f : Scenario) (good : ℕ → Good) where
   -- the good ones of so many columns from column k on
   unfoldable pub goods-from : (many k : ℕ) → List Good
   goods-from zero k = []

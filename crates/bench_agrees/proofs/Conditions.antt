@@ -14,11 +14,11 @@ use Rattle.column.specs.Call.{Call, here}
 use Rattle.record.proofs.Refusal.{Opens, opens-of}
 use Rattle.gradecast.specs.Promise.{Good, Ran, On, Round-frame, Handed, Fair}
 use Rattle.gradecast.proofs.Walk.{run-passes}
-use Rattle.bench_file.specs.Said.{Said, own-of, is-good}
+use Rattle.bench_file.specs.Scenario.{Scenario, own-of, is-good}
 use Rattle.bench.specs.Group.{bench-run, heard-in, round-calls, Group-run}
-use Rattle.bench.proofs.Exchanged.{In-round, good-own}
-use Rattle.bench.proofs.Hearing.{heard-good}
-use Rattle.bench.proofs.OneRun.{in-round}
+use Rattle.bench.proofs.Running.Exchanged.{In-round, good-own}
+use Rattle.bench.proofs.Running.Hearing.{heard-good}
+use Rattle.bench.proofs.Running.OneRun.{in-round}
 use Rattle.bench_agrees.proofs.Calls.{passes-run, passes-join, passes-more, heard-taken, Takes-only, takes-both, takes-at, takes-heard}
 
 -- the own value that is there
@@ -30,17 +30,17 @@ pub same-some : {A : Type 0} {x y : A} → some x ≡ some y → x ≡ y
 same-some e = cc
 
 -- the calls of so many rounds from a round on
-unfoldable pub rounds-from : Said → (frames : ℕ → ℕ → List ℕ) → (column many round : ℕ) → List Call
+unfoldable pub rounds-from : Scenario → (frames : ℕ → ℕ → List ℕ) → (column many round : ℕ) → List Call
 rounds-from f frames k zero m = []
 rounds-from f frames k (suc n) m = round-calls f (frames m) m k ++ rounds-from f frames k n (suc m)
 
 -- a column of a run with its list of calls
-unfoldable pub good : Said → (records : ℕ → ℕ → Rec) → (frames : ℕ → ℕ → List ℕ) → (column : ℕ) → Good
+unfoldable pub good : Scenario → (records : ℕ → ℕ → Rec) → (frames : ℕ → ℕ → List ℕ) → (column : ℕ) → Good
 good f records frames k =
     record { number = k; own = own-there (own-of (f .owns) k); calls = rounds-from f frames k 3 1; last = records 4 k }
 
 module _
-    (f : Said) (records : ℕ → ℕ → Rec) (frames : ℕ → ℕ → List ℕ)
+    (f : Scenario) (records : ℕ → ℕ → Rec) (frames : ℕ → ℕ → List ℕ)
     (opens : (k : ℕ) (v : Value) → own-of (f .owns) k ≡ some v → open-refusal (f .settings) k v ≡ 0)
     (run : Group-run f records frames)
   where

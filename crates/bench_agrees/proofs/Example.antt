@@ -9,9 +9,9 @@ use Rattle.grading.specs.Value.{is-blank}
 use Rattle.record.specs.Frame.{operand-size}
 use Rattle.record.specs.Record.{is-taken}
 use Rattle.record.specs.Refusal.{line, first-of, blank-refusal}
-use Rattle.bench_file.specs.Said.{Said, message, only-settings, with-own, with-message, own-of, is-good, message-of}
-use Rattle.bench_file.specs.Command.{command-in, is-known, head-size, body-size, command-size, body-in, no-message, form-refusal, message-in, is-column, column-refusal, message-refusal, checks-round-refusal, operand-refusal, value-refusal, command-refusal, after-command}
-use Rattle.bench_file.specs.File.{said, group-in, group-refusal, commands-from, commands-told, file-told}
+use Rattle.bench_file.specs.Scenario.{Scenario, message, only-settings, with-own, with-message, own-of, is-good, message-of}
+use Rattle.bench_file.specs.Command.{command-in, is-known, head-size, body-size, command-size, body-in, no-message, form-fault, form-refusal, round-in, from-in, to-in, message-in, is-column, column-refusal, message-refusal, checks-round-refusal, operand-refusal, value-refusal, command-refusal, after-command}
+use Rattle.bench_file.specs.File.{parsed, group-in, group-refusal, commands-from, parse-commands, parse-file}
 use Rattle.bench_agrees.specs.Promise.{bad-from, bad-columns, Few-bad}
 
 -- examples/exchange.bench
@@ -21,7 +21,7 @@ file =
     ∷ 2 ∷ 0 ∷ 136 ∷ 3 ∷ 2 ∷ 4 ∷ 3 ∷ 121 ∷ 143 ∷ 3 ∷ 3 ∷ 4 ∷ 1 ∷ 87 ∷ 61 ∷ 3 ∷ 3 ∷ 4 ∷ 2 ∷ 87 ∷ 61 ∷ 3 ∷ 3 ∷ 4 ∷ 3 ∷ 123 ∷ 149 ∷ 15 ∷ []
 
 -- what it says
-unfoldable pub group : Said
+unfoldable pub group : Scenario
 group =
     record {
       settings = settings 4 1 1;
@@ -33,11 +33,11 @@ group =
           ∷ message 1 4 1 (35 ∷ []) ∷ [];
     }
 
-pub told : file-told file ≡ said group
+pub example-parse : parse-file file ≡ parsed group
 unfolding file group settings settings-refusal check-count value-size is-blank operand-size is-taken line first-of blank-refusal message only-settings with-own with-message
-    own-of is-good message-of command-in is-known head-size body-size command-size body-in no-message form-refusal message-in is-column column-refusal message-refusal
-    checks-round-refusal operand-refusal value-refusal command-refusal after-command group-in group-refusal commands-from commands-told file-told
-told = refl
+    own-of is-good message-of command-in is-known head-size body-size command-size body-in no-message form-fault form-refusal round-in from-in to-in message-in is-column column-refusal message-refusal
+    checks-round-refusal operand-refusal value-refusal command-refusal after-command group-in group-refusal commands-from parse-commands parse-file
+example-parse = refl
 
 pub few : Few-bad group
 unfolding group settings Few-bad bad-columns bad-from is-good is-taken own-of

@@ -17,7 +17,7 @@ use Rattle.column.specs.Call.{Call}
 use Rattle.gradecast.specs.Promise.{Good, Among, Ran, Fair, Conditions, holds, Agree, Gradecast}
 use Rattle.gradecast.proofs.Walk.{kept, run-passes, Closing, closing-of, proper-passes}
 use Rattle.gradecast.proofs.Gradecast.{gradecast}
-use Rattle.bench_file.specs.Said.{Said, own-of, is-good}
+use Rattle.bench_file.specs.Scenario.{Scenario, own-of, is-good}
 use Rattle.bench.specs.Group.{bench-run, Group-run}
 use Rattle.bench_agrees.specs.Promise.{bad-columns, Few-bad, in-line, Lines-agree, Group-agrees}
 use Rattle.bench_agrees.proofs.Columns.{goods-from, goods-count, good-among, every-good, goods-different}
@@ -33,12 +33,12 @@ closed-length s r z cs rest x e =
     let y = x .way .three (x .in-round) in
     ap length (kept (x .from) .held (omega (arith, x .way .round, x .in-round)) ∙ y .2) ∙ held-length (x .before .who .settings) (y .0) ∙ ap (λ (u : Settings). u .n) e
 
-owned : (f : Said) (k : ℕ) (v : Value) → own-of (f .owns) k ≡ some v → is-good f k ≡ true
+owned : (f : Scenario) (k : ℕ) (v : Value) → own-of (f .owns) k ≡ some v → is-good f k ≡ true
 unfolding is-good is-taken
 owned f k v e = rw e refl
 
 module _
-    (f : Said) (records : ℕ → ℕ → Rec) (frames : ℕ → ℕ → List ℕ)
+    (f : Scenario) (records : ℕ → ℕ → Rec) (frames : ℕ → ℕ → List ℕ)
     (opens : (k : ℕ) (v : Value) → own-of (f .owns) k ≡ some v → open-refusal (f .settings) k v ≡ 0)
     (few : Few-bad f) (run : Group-run f records frames)
   where

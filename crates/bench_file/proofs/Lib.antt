@@ -1,5 +1,3 @@
-pub mod Standing
-pub mod Faults
-pub mod Readings
-pub mod Steps
-pub mod Sound
+pub mod Located
+pub mod OneCommand
+pub mod WholeFile

@@ -9,7 +9,7 @@ use Rattle.code.specs.Settings.{Settings}
 use Rattle.record.specs.Frame.{operand-size}
 use Rattle.record.specs.Record.{is-taken}
 use Rattle.record.specs.Refusal.{first-of, blank-refusal}
-use Rattle.bench_file.specs.Said.{Message, message, Said, with-own, with-message, is-good, message-of}
+use Rattle.bench_file.specs.Scenario.{Message, message, Scenario, with-own, with-message, is-good, message-of}
 
 -- the command byte; past the end of the file 0, which is no command
 unfoldable pub command-in : List ℕ → ℕ
@@ -40,33 +40,43 @@ unfoldable pub no-message : List Message → Bool
 no-message [] = true
 no-message (m ∷ ms) = false
 
--- 19: unknown, out of order, as another group command or an own value behind a message, cut short, bytes after the end
-unfoldable pub form-refusal : Said → List ℕ → ℕ
-form-refusal f bs =
-    let c = command-in bs in
+-- 19: unknown, out of order, as another group command or an own value behind a message, cut short, bytes after the end; of a command with
+-- so many bytes left, behind a message or not
+unfoldable pub form-fault : Settings → (late : Bool) → (command left : ℕ) → ℕ
+form-fault s late c left =
     cond (not (is-known c)) 19
-    (cond (eqb c 4 && not (no-message (f .messages))) 19
-    (cond (ltb (length bs) (command-size (f .settings) c)) 19 (cond (eqb c 15 && ltb 1 (length bs)) 19 0)))
+    (cond (eqb c 4 && late) 19 (cond (ltb left (command-size s c)) 19 (cond (eqb c 15 && ltb 1 left) 19 0)))
 
--- the message of a command 2, which is one of round one, or 3
+unfoldable pub form-refusal : Scenario → List ℕ → ℕ
+form-refusal f bs = form-fault (f .settings) (not (no-message (f .messages))) (command-in bs) (length bs)
+
+-- the round and the columns of a message: a command 2 is one of round one, a command 3 says its round
+unfoldable pub round-in : List ℕ → ℕ
+round-in bs = cond (eqb (command-in bs) 2) 1 (getD bs 1 0)
+
+unfoldable pub from-in : List ℕ → ℕ
+from-in bs = cond (eqb (command-in bs) 2) (getD bs 1 0) (getD bs 2 0)
+
+unfoldable pub to-in : List ℕ → ℕ
+to-in bs = cond (eqb (command-in bs) 2) (getD bs 2 0) (getD bs 3 0)
+
+-- the message of a command 2 or 3
 unfoldable pub message-in : Settings → List ℕ → Message
-message-in s bs =
-    cond (eqb (command-in bs) 2) (message 1 (getD bs 1 0) (getD bs 2 0) (body-in s bs))
-    (message (getD bs 1 0) (getD bs 2 0) (getD bs 3 0) (body-in s bs))
+message-in s bs = message (round-in bs) (from-in bs) (to-in bs) (body-in s bs)
 
 -- whether a column is one of 1 to n
-unfoldable pub is-column : Settings → (column : ℕ) → Bool
-is-column s k = leb 1 k && leb k (s .n)
+unfoldable pub is-column : (n column : ℕ) → Bool
+is-column n k = leb 1 k && leb k n
 
 -- 20, of an own value: a column not 1 to n, a column owned twice
-unfoldable pub column-refusal : Said → (column : ℕ) → ℕ
-column-refusal f k = cond (not (is-column (f .settings) k)) 20 (cond (is-good f k) 20 0)
+unfoldable pub column-refusal : Scenario → (column : ℕ) → ℕ
+column-refusal f k = cond (not (is-column (f .settings .n) k)) 20 (cond (is-good f k) 20 0)
 
 -- 20, of a message: a column not 1 to n, "from" a good one, "to" a bad one, the same message twice
-unfoldable pub message-refusal : Said → (round from to : ℕ) → ℕ
+unfoldable pub message-refusal : Scenario → (round from to : ℕ) → ℕ
 message-refusal f m k l =
-    cond (not (is-column (f .settings) k)) 20
-    (cond (not (is-column (f .settings) l)) 20
+    cond (not (is-column (f .settings .n) k)) 20
+    (cond (not (is-column (f .settings .n) l)) 20
     (cond (is-good f k) 20 (cond (not (is-good f l)) 20 (cond (is-taken (message-of (f .messages) m k l)) 20 0))))
 
 -- 20, of checks: a round other than 2 and 3
@@ -74,23 +84,22 @@ unfoldable pub checks-round-refusal : (command round : ℕ) → ℕ
 checks-round-refusal c m = cond (eqb c 3) (cond (eqb m 2 || eqb m 3) 0 20) 0
 
 -- 20: operand not allowed
-unfoldable pub operand-refusal : Said → List ℕ → ℕ
+unfoldable pub operand-refusal : Scenario → List ℕ → ℕ
 operand-refusal f bs =
     let c = command-in bs in
-    let m = message-in (f .settings) bs in
     cond (eqb c 15) 0
     (cond (eqb c 4) (column-refusal f (getD bs 1 0))
-    (first-of (checks-round-refusal c (m .round) ∷ message-refusal f (m .round) (m .from) (m .to) ∷ [])))
+    (first-of (checks-round-refusal c (round-in bs) ∷ message-refusal f (round-in bs) (from-in bs) (to-in bs) ∷ [])))
 
 -- 6: own value blank
-unfoldable pub value-refusal : Said → List ℕ → ℕ
+unfoldable pub value-refusal : Scenario → List ℕ → ℕ
 value-refusal f bs = cond (eqb (command-in bs) 4) (blank-refusal (body-in (f .settings) bs)) 0
 
 -- where a command is turned down: 19, then 20, then 6; 0, it is not
-unfoldable pub command-refusal : Said → List ℕ → ℕ
+unfoldable pub command-refusal : Scenario → List ℕ → ℕ
 command-refusal f bs = first-of (form-refusal f bs ∷ operand-refusal f bs ∷ value-refusal f bs ∷ [])
 
 -- what is said after a command that is not turned down
-unfoldable pub after-command : Said → List ℕ → Said
+unfoldable pub after-command : Scenario → List ℕ → Scenario
 after-command f bs =
     cond (eqb (command-in bs) 4) (with-own f (getD bs 1 0) (body-in (f .settings) bs)) (with-message f (message-in (f .settings) bs))

@@ -1,6 +1,4 @@
-pub mod Said
+pub mod Scenario
 pub mod Command
 pub mod File
-pub mod Places
-pub mod Step
-pub mod Reading
+pub mod Steps

@@ -1,15 +1,15 @@
 // The commands behind the group's: their lengths, their faults, and what they say.
 ghost use mathlib.Core.Path.{_≡_};
-ghost use mathlib.Core.Bool.{_&&_, true, not};
+ghost use mathlib.Core.Bool.{_&&_, true};
 ghost use mathlib.Core.List.{List};
 ghost use Prim.Native.Nat.{ℕ, _+_, _≤_, _<_};
 ghost use lib.ListN.{length, getD, drop};
-ghost use Rattle.code.specs.Settings.{Settings, settings};
+ghost use Rattle.code.specs.Settings.{settings};
 ghost use Rattle.code.specs.Size.{most-columns, value-room, checks-room};
-ghost use Rattle.bench_file.specs.Said.{Said};
-ghost use Rattle.bench_file.specs.Command.{command-in, is-known, head-size, body-size, command-size, no-message, form-refusal, message-in, is-column, column-refusal, message-refusal, checks-round-refusal, operand-refusal, value-refusal, command-refusal, after-command};
-ghost use Rattle.bench_file.specs.Places.{Located, Places-of};
-ghost use Rattle.bench_file.specs.Step.{Begins, Accepted, Stepped};
+ghost use Rattle.bench_file.specs.Scenario.{Scenario};
+ghost use Rattle.bench_file.specs.Command.{is-known, head-size, body-size, command-size, form-fault, round-in, from-in, to-in, is-column, column-refusal, message-refusal, checks-round-refusal, operand-refusal, command-refusal, after-command};
+ghost use Rattle.bench_file.specs.Steps.Places.{Located, Places-of};
+ghost use Rattle.bench_file.specs.Steps.CommandAt.{Begins, value-fault, Accepted, Stepped};
 use crate::places;
 use crate::places::Places;
 use counting::lent;
@@ -81,10 +81,10 @@ fn head_size(command: u32) -> usize
     1
 }
 
-// The bytes of its value or check values.
+// The bytes of its value or check values; n plays no part.
 fn body_size(t: u32, w: u32, command: u32) -> usize
     requires { ⌜ (t ≤ 10) × (w ≤ value-room) ⌝ }
-    ensures { λ r. ⌜ ((n : ℕ) → r ≡ body-size (settings n t w) command) ⌝ }
+    ensures { λ r. ⌜ r ≡ body-size (settings 0 t w) command ⌝ }
     ensures small { λ r. ⌜ r ≤ checks-room ⌝ }
 {
     if command == 15 {
@@ -98,7 +98,7 @@ fn body_size(t: u32, w: u32, command: u32) -> usize
 
 fn command_size(t: u32, w: u32, command: u32) -> usize
     requires { ⌜ (t ≤ 10) × (w ≤ value-room) ⌝ }
-    ensures { λ r. ⌜ ((n : ℕ) → r ≡ command-size (settings n t w) command) ⌝ }
+    ensures { λ r. ⌜ r ≡ command-size (settings 0 t w) command ⌝ }
     ensures small { λ r. ⌜ (1 ≤ r) × (r ≤ 4 + checks-room) ⌝ }
 {
     head_size(command) + body_size(t, w, command)
@@ -116,7 +116,7 @@ fn both(a: bool, b: bool) -> bool
 // 19: unknown, out of order, cut short, bytes after the end; of so many bytes left.
 fn form_refusal(command: u32, left: usize, t: u32, w: u32, late: bool) -> u32
     requires { ⌜ (t ≤ 10) × (w ≤ value-room) ⌝ }
-    ensures { λ r. ⌜ ((f : Said) (n : ℕ) (bs : List ℕ) → f .settings ≡ settings n t w → no-message (f .messages) ≡ not late → command-in bs ≡ command → length bs ≡ left → r ≡ form-refusal f bs) ⌝ }
+    ensures { λ r. ⌜ r ≡ form-fault (settings 0 t w) late command left ⌝ }
 {
     if !is_known(command) {
         return 19;
@@ -134,7 +134,7 @@ fn form_refusal(command: u32, left: usize, t: u32, w: u32, late: bool) -> u32
 }
 
 fn is_column(n: u32, column: u32) -> bool
-    ensures { λ r. ⌜ ((t w : ℕ) → r ≡ is-column (settings n t w) column) ⌝ }
+    ensures { λ r. ⌜ r ≡ is-column n column ⌝ }
 {
     if column < 1 {
         return false;
@@ -145,7 +145,7 @@ fn is_column(n: u32, column: u32) -> bool
 // 20, of an own value: a column not 1 to n, a column owned twice.
 fn column_refusal(places: Places, column: u32) -> u32
     requires { ⌜ places .n ≤ most-columns ⌝ }
-    ensures { λ r. ⌜ ((file : List ℕ) (f : Said) → Located file places f → r ≡ column-refusal f column) ⌝ }
+    ensures { λ r. ⌜ ((file : List ℕ) (f : Scenario) → Located file places f → r ≡ column-refusal f column) ⌝ }
 {
     if !is_column(places.n, column) {
         return 20;
@@ -159,7 +159,7 @@ fn column_refusal(places: Places, column: u32) -> u32
 // 20, of a message: a column not 1 to n, from a good one, to a bad one, the same message twice.
 fn message_refusal(places: Places, round: u32, from: u32, to: u32) -> u32
     requires { ⌜ (places .n ≤ most-columns) × (1 ≤ round) × (round ≤ 3) ⌝ }
-    ensures { λ r. ⌜ ((file : List ℕ) (f : Said) → Located file places f → r ≡ message-refusal f round from to) ⌝ }
+    ensures { λ r. ⌜ ((file : List ℕ) (f : Scenario) → Located file places f → r ≡ message-refusal f round from to) ⌝ }
 {
     if !is_column(places.n, from) {
         return 20;
@@ -187,7 +187,7 @@ pub struct Heading {
 }
 
 fn heading_of(head: Head) -> Heading
-    ensures { λ r. ⌜ ((s : Settings) (bs : List ℕ) → Begins bs head → (r .round ≡ message-in s bs .round) × (r .from ≡ message-in s bs .from) × (r .to ≡ message-in s bs .to)) ⌝ }
+    ensures { λ r. ⌜ ((bs : List ℕ) → Begins bs head → (r .round ≡ round-in bs) × (r .from ≡ from-in bs) × (r .to ≡ to-in bs)) ⌝ }
 {
     if head.command == 2 {
         return Heading {
@@ -222,7 +222,7 @@ fn checks_round_refusal(command: u32, round: u32) -> u32
 // 20: operand not allowed.
 fn operand_refusal(head: Head, places: Places) -> u32
     requires { ⌜ (places .n ≤ most-columns) × (is-known (head .command) ≡ true) ⌝ }
-    ensures { λ r. ⌜ ((file : List ℕ) (f : Said) (bs : List ℕ) → Located file places f → Begins bs head → r ≡ operand-refusal f bs) ⌝ }
+    ensures { λ r. ⌜ ((file : List ℕ) (f : Scenario) (bs : List ℕ) → Located file places f → Begins bs head → r ≡ operand-refusal f bs) ⌝ }
 {
     if head.command == 15 {
         return 0;
@@ -241,7 +241,7 @@ fn operand_refusal(head: Head, places: Places) -> u32
 // 6: own value blank.
 fn value_refusal(file: &[u8], at: usize, command: u32, w: u32) -> u32
     requires { ⌜ (w ≤ value-room) × (at ≤ length (now file)) × (command ≡ 4 → at + (2 + w) ≤ length (now file)) ⌝ }
-    ensures { λ r. ⌜ ((f : Said) → f .settings .w ≡ w → command-in (drop at (now (file .entry))) ≡ command → r ≡ value-refusal f (drop at (now (file .entry)))) ⌝ }
+    ensures { λ r. ⌜ r ≡ value-fault (now (file .entry)) at command w ⌝ }
 {
     if command != 4 {
         return 0;
@@ -257,7 +257,7 @@ fn value_refusal(file: &[u8], at: usize, command: u32, w: u32) -> u32
 // Where a command is turned down: 19, then 20, then 6; 0, it is not.
 fn command_refusal(file: &[u8], at: usize, head: Head, places: Places) -> u32
     requires { ⌜ Places-of (now file) places × (at ≤ length (now file)) × Begins (drop at (now file)) head ⌝ }
-    ensures { λ r. ⌜ ((f : Said) → Located (now (file .entry)) places f → r ≡ command-refusal f (drop at (now (file .entry)))) ⌝ }
+    ensures { λ r. ⌜ ((f : Scenario) → Located (now (file .entry)) places f → r ≡ command-refusal f (drop at (now (file .entry)))) ⌝ }
 {
     let left = file.len() - at;
     let of_form = form_refusal(head.command, left, places.t, places.w, places.late);
@@ -273,8 +273,8 @@ fn command_refusal(file: &[u8], at: usize, head: Head, places: Places) -> u32
 
 // The places after a command that is not turned down.
 fn after_command(at: usize, head: Head, places: Places) -> Places
-    requires { ⌜ ((file : List ℕ) × (f : Said) × Accepted file f at head places) ⌝ }
-    ensures { λ r. ⌜ ((file : List ℕ) (f : Said) → Accepted file f at head places → Located file r (after-command f (drop at file))) ⌝ }
+    requires { ⌜ ((file : List ℕ) × (f : Scenario) × Accepted file f at head places) ⌝ }
+    ensures { λ r. ⌜ ((file : List ℕ) (f : Scenario) → Accepted file f at head places → Located file r (after-command f (drop at file))) ⌝ }
 {
     let body = at + head_size(head.command);
     if head.command == 4 {
@@ -299,7 +299,7 @@ pub struct Step {
 
 pub fn step_at(file: &[u8], at: usize, places: Places) -> Step
     requires { ⌜ Places-of (now file) places × (at ≤ length (now file)) ⌝ }
-    ensures { λ r. ⌜ ((f : Said) → Located (now (file .entry)) places f → Stepped f (now (file .entry)) at (r .turn) (r .places)) ⌝ }
+    ensures { λ r. ⌜ ((f : Scenario) → Located (now (file .entry)) places f → Stepped f (now (file .entry)) at (r .turn) (r .places)) ⌝ }
 {
     let head = head_at(file, at);
     let refusal = command_refusal(file, at, head, places);

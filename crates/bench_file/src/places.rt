@@ -1,15 +1,15 @@
 // Where in a bench file the own values and messages stand.
 ghost use mathlib.Core.Path.{_≡_};
 ghost use mathlib.Core.List.{List};
-ghost use Prim.Native.Nat.{ℕ, _+_, _≤_, _<_};
-ghost use lib.ListN.{length, take, drop};
+ghost use mathlib.Core.Option.{some};
+ghost use Prim.Native.Nat.{ℕ, _≤_, _<_};
 ghost use Rattle.code.specs.Settings.{settings, settings-refusal};
 ghost use Rattle.code.specs.Size.{most-columns};
 ghost use Rattle.grading.specs.Value.{Value};
 ghost use Rattle.record.specs.Frame.{operand-size};
 ghost use Rattle.record.specs.Refusal.{open-refusal};
-ghost use Rattle.bench_file.specs.Said.{Said, only-settings, with-own, with-message, message, own-of, message-of, is-good};
-ghost use Rattle.bench_file.specs.Places.{most-messages, message-index, Stands, Located};
+ghost use Rattle.bench_file.specs.Scenario.{Scenario, only-settings, with-own, with-message, message, own-of, message-of, is-good};
+ghost use Rattle.bench_file.specs.Steps.Places.{most-messages, message-index, Bytes-at, Message-range, Located};
 use code::sizes::MOST_COLUMNS;
 
 // Of each round, from each column to each.
@@ -41,7 +41,7 @@ pub fn only_settings(n: u32, t: u32, w: u32) -> Places
 }
 
 fn index_of_message(round: u32, from: u32, to: u32) -> usize
-    requires { ⌜ (1 ≤ round) × (round ≤ 3) × (1 ≤ from) × (from ≤ most-columns) × (1 ≤ to) × (to ≤ most-columns) ⌝ }
+    requires { ⌜ Message-range round from to ⌝ }
     ensures { λ r. ⌜ (r ≡ message-index round from to) × (r < most-messages) ⌝ }
 {
     ((round - 1) * 1024 + ((from - 1) * 32 + (to - 1))) as usize
@@ -50,7 +50,7 @@ fn index_of_message(round: u32, from: u32, to: u32) -> usize
 // The place of a column's own value.
 pub fn own_at(places: Places, column: u32) -> usize
     requires { ⌜ (1 ≤ column) × (column ≤ most-columns) ⌝ }
-    ensures { λ r. ⌜ ((file : List ℕ) (f : Said) → Located file places f → Stands file (places .w) r (own-of (f .owns) column)) ⌝ }
+    ensures { λ r. ⌜ ((file : List ℕ) (f : Scenario) → Located file places f → Bytes-at file (places .w) r (own-of (f .owns) column)) ⌝ }
 {
     let k = (column - 1) as usize;
     places.owns[k]
@@ -58,15 +58,15 @@ pub fn own_at(places: Places, column: u32) -> usize
 
 pub fn is_good(places: Places, column: u32) -> bool
     requires { ⌜ (1 ≤ column) × (column ≤ most-columns) ⌝ }
-    ensures { λ r. ⌜ ((file : List ℕ) (f : Said) → Located file places f → r ≡ is-good f column) ⌝ }
+    ensures { λ r. ⌜ ((file : List ℕ) (f : Scenario) → Located file places f → r ≡ is-good f column) ⌝ }
 {
     own_at(places, column) != 0
 }
 
 // The place of a message.
 pub fn message_at(places: Places, round: u32, from: u32, to: u32) -> usize
-    requires { ⌜ (1 ≤ round) × (round ≤ 3) × (1 ≤ from) × (from ≤ most-columns) × (1 ≤ to) × (to ≤ most-columns) ⌝ }
-    ensures { λ r. ⌜ ((file : List ℕ) (f : Said) → Located file places f → Stands file (operand-size (f .settings) round) r (message-of (f .messages) round from to)) ⌝ }
+    requires { ⌜ Message-range round from to ⌝ }
+    ensures { λ r. ⌜ ((file : List ℕ) (f : Scenario) → Located file places f → Bytes-at file (operand-size (f .settings) round) r (message-of (f .messages) round from to)) ⌝ }
 {
     let i = index_of_message(round, from, to);
     places.messages[i]
@@ -75,7 +75,7 @@ pub fn message_at(places: Places, round: u32, from: u32, to: u32) -> usize
 // With a column's own value at a place.
 pub fn with_own(places: Places, column: u32, at: usize) -> Places
     requires { ⌜ (1 ≤ column) × (column ≤ most-columns) ⌝ }
-    ensures { λ r. ⌜ ((file : List ℕ) (f : Said) (v : Value) → Located file places f → (at ≡ 0 → ⊥) → at + places .w ≤ length file → v ≡ take (places .w) (drop at file) → open-refusal (f .settings) column v ≡ 0 → Located file r (with-own f column v)) ⌝ }
+    ensures { λ r. ⌜ ((file : List ℕ) (f : Scenario) (v : Value) → Located file places f → Bytes-at file (places .w) at (some v) → open-refusal (f .settings) column v ≡ 0 → Located file r (with-own f column v)) ⌝ }
 {
     let k = (column - 1) as usize;
     let mut more = places;
@@ -85,8 +85,8 @@ pub fn with_own(places: Places, column: u32, at: usize) -> Places
 
 // With a message at a place.
 pub fn with_message(places: Places, round: u32, from: u32, to: u32, at: usize) -> Places
-    requires { ⌜ (1 ≤ round) × (round ≤ 3) × (1 ≤ from) × (from ≤ most-columns) × (1 ≤ to) × (to ≤ most-columns) ⌝ }
-    ensures { λ r. ⌜ ((file : List ℕ) (f : Said) (x : List ℕ) → Located file places f → (at ≡ 0 → ⊥) → at + operand-size (f .settings) round ≤ length file → x ≡ take (operand-size (f .settings) round) (drop at file) → Located file r (with-message f (message round from to x))) ⌝ }
+    requires { ⌜ Message-range round from to ⌝ }
+    ensures { λ r. ⌜ ((file : List ℕ) (f : Scenario) (x : List ℕ) → Located file places f → Bytes-at file (operand-size (f .settings) round) at (some x) → Located file r (with-message f (message round from to x))) ⌝ }
 {
     let i = index_of_message(round, from, to);
     let mut more = places;

@@ -3,11 +3,11 @@ ghost use mathlib.Core.Path.{_≡_};
 ghost use mathlib.Core.List.{List};
 ghost use Prim.Native.Nat.{ℕ, _≤_};
 ghost use lib.ListN.{length, drop};
-ghost use Rattle.bench_file.specs.Said.{only-settings};
-ghost use Rattle.bench_file.specs.File.{group-in, group-refusal, commands-from, file-told};
-ghost use Rattle.bench_file.specs.Places.{Located};
-ghost use Rattle.bench_file.specs.Step.{Begins};
-ghost use Rattle.bench_file.specs.Reading.{Parsed-as};
+ghost use Rattle.bench_file.specs.Scenario.{only-settings};
+ghost use Rattle.bench_file.specs.File.{group-in, group-refusal, commands-from, parse-file};
+ghost use Rattle.bench_file.specs.Steps.Places.{Located};
+ghost use Rattle.bench_file.specs.Steps.CommandAt.{Begins};
+ghost use Rattle.bench_file.specs.Steps.Reading.{Parsed-as};
 use crate::commands;
 use crate::commands::Head;
 use crate::commands::Turn;
@@ -48,7 +48,7 @@ fn group_refusal(head: Head, size: usize) -> u32
 }
 
 // The commands behind the group's; a file without an end command is cut short.
-fn commands_told(file: &[u8], group: Places) -> Parsed
+fn parse_commands(file: &[u8], group: Places) -> Parsed
     requires { ⌜ (4 ≤ length (now file)) × Located (now file) group (only-settings (group-in (now file))) ⌝ }
     ensures { λ r. ⌜ Parsed-as (commands-from (length (now (file .entry))) (only-settings (group-in (now (file .entry)))) (drop 4 (now (file .entry)))) (now (file .entry)) (r .answer) (r .places) ⌝ }
 {
@@ -79,7 +79,7 @@ fn commands_told(file: &[u8], group: Places) -> Parsed
 
 // A whole file: one that is too long is 19 before any command is read.
 pub fn parse(file: &[u8]) -> Parsed
-    ensures { λ r. ⌜ Parsed-as (file-told (now (file .entry))) (now (file .entry)) (r .answer) (r .places) ⌝ }
+    ensures { λ r. ⌜ Parsed-as (parse-file (now (file .entry))) (now (file .entry)) (r .answer) (r .places) ⌝ }
 {
     let size = file.len();
     if LONGEST_FILE < size {
@@ -91,5 +91,5 @@ pub fn parse(file: &[u8]) -> Parsed
         return refused(refusal);
     }
     let group = places::only_settings(head.first, head.second, head.third);
-    commands_told(file, group)
+    parse_commands(file, group)
 }

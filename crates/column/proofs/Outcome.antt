@@ -59,7 +59,7 @@ operand-unique (suc (suc zero)) w f xs ys fine e g a b = checks-same (w .setting
 operand-unique (suc (suc (suc zero))) w f xs ys fine e g a b = checks-same (w .settings) (f .agreed) xs ys fine e g a b
 operand-unique (suc (suc (suc (suc m)))) w f xs ys fine e g a b = absurd a
 
-frame-unique : (r : Rec) (xs ys : List ℕ) → settings-refusal (r .who .settings) ≡ 0 → Frame-of r xs → Frame-of r ys → xs ≡ ys
+pub frame-unique : (r : Rec) (xs ys : List ℕ) → settings-refusal (r .who .settings) ≡ 0 → Frame-of r xs → Frame-of r ys → xs ≡ ys
 unfolding Frame-of operand-in
 frame-unique r xs ys fine a b =
     let s = r .who .settings in

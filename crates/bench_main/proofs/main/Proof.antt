@@ -2,7 +2,7 @@
 use mathlib.Core.Path.{sym}
 use borrow.Author.Needs.{needs}
 use lib.Seq.{length-take-le}
-use Rattle.bench.proofs.Output.{answer-within}
+use Rattle.bench.proofs.Listing.Output.{answer-within}
 use Rattle.bench_main.proofs.main.Statement.{statement}
 use Rattle.bench_main.proofs.main.Tie as tie
 

@@ -7,20 +7,20 @@ use Rattle.code.specs.Size.{most-columns}
 use Rattle.record.specs.Record.{Rec}
 use Rattle.column.specs.Call.{Run}
 use Rattle.record.specs.View.{view}
-use Rattle.bench_file.specs.Said.{Said}
+use Rattle.bench_file.specs.Scenario.{Scenario}
 use Rattle.bench.specs.Group.{heard-in, calls-from, round-calls}
-use Rattle.bench_file.specs.Places.{Located, Places-of}
-use Rattle.bench.specs.Running.{frame-bytes, frame-at}
-use Rattle.bench_file.proofs.Standing.{small}
-use Rattle.bench_file.proofs.Readings.{columns}
-use Rattle.bench.proofs.Hearing.{hear-more, calls-next, close-last}
+use Rattle.bench_file.specs.Steps.Places.{Located, Places-of}
+use Rattle.bench.specs.Steps.Running.{frame-bytes, frame-at}
+use Rattle.bench_file.proofs.Located.{small}
+use Rattle.bench_file.proofs.OneCommand.Readings.{columns}
+use Rattle.bench.proofs.Running.Hearing.{hear-more, calls-next, close-last}
 use Rattle.bench.proofs.group.after_round.Statement.{statement}
 use Rattle.bench.proofs.group.after_round.Tie as tie
 
 abbrev Inv-loop : tie.InvT-loop
 Inv-loop file places round to frames next₀ slot₀ next slot =
     (1 ≤ slot) × (slot ≤ places .n + 1) × (places .n ≤ most-columns)
-    × ((f : Said) →
+    × ((f : Scenario) →
     Located file places f → (z : Rec) →
     Run (view next) (calls-from (heard-in f (λ k. frame-bytes (f .settings) round (frame-at frames k)) round to) (places .n + 1 - slot) slot) z →
     Run (view next₀) (calls-from (heard-in f (λ k. frame-bytes (f .settings) round (frame-at frames k)) round to) (places .n + 1 - 1) 1) z)
@@ -46,9 +46,9 @@ array-copy-out-frame c = omega arith
 
 heard-at-requires : tie.Need-heard-at-requires Inv-loop μ-loop
 heard-at-requires c κs =
-    let l = c .before .before .before .loop .inv in
-    let p = c .before .before .before .before .before .pre in
-    (p .0, p .1, p .2, l .0, omega arith, p .3, p .4)
+    let turn = c .before .before .before in
+    let p = turn .before .before .pre in
+    (p .0, omega (arith, p, turn .loop .inv))
 
 add-slot : tie.Need-add-slot Inv-loop μ-loop
 add-slot c = omega arith
@@ -59,8 +59,8 @@ loop-less c = omega arith
 loop-again : tie.Need-loop-again Inv-loop μ-loop
 unfolding frame-at
 loop-again c =
-    let l = c .before .before .before .before .loop in
-    let a = c .before .before .before .before .before .before .args in (
+    let turn = c .before .before .before .before in let l = turn .loop in
+    let a = turn .before .before .args in (
       omega arith,
       omega arith,
       l .inv .2,
@@ -76,8 +76,8 @@ close-requires c κs = search needs
 returns : tie.Need-returns Inv-loop μ-loop
 unfolding round-calls
 returns c f h =
-    let l = c .before .before .before .before .loop in
-    let a = c .before .before .before .before .before .before .args in
+    let turn = c .before .before .before .before in let l = turn .loop in
+    let a = turn .before .before .args in
     let none : a .places .n + 1 - l .slot ≡ 0 = omega arith in
     let all : f .settings .n ≡ a .places .n + 1 - 1 = omega (arith, columns f (a .places) (h .settings)) in
     let heard = heard-in f (λ k. frame-bytes (f .settings) (a .round) (frame-at (a .t4) k)) (a .round) (a .to) in

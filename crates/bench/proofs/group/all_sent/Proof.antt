@@ -5,24 +5,17 @@ use native.Mathlib.Omega.{arith}
 use borrow.Author.Needs.{needs}
 use lib.ListN.{length, length-set}
 use Rattle.code.specs.Size.{most-columns}
-use Rattle.record.specs.Frame.{longest-frame}
-use Rattle.record.specs.Record.{who-as}
-use Rattle.record.specs.Refusal.{send-refusal}
-use Rattle.column.specs.Call.{Frame-of}
-use Rattle.record.specs.View.{who-in, view}
-use Rattle.bench.specs.Finished.{record-of}
-use Rattle.bench.specs.Running.{frame-past, frame-bytes, frame-at}
+use Rattle.bench.specs.Steps.Finished.{record-of}
+use Rattle.bench.specs.Steps.Running.{frame-past, Sends, frame-at}
 use Rattle.bench.specs.declared.group.Frame.{Frame}
-use Rattle.bench.proofs.Hearing.{set-cases}
+use Rattle.bench.proofs.Running.Hearing.{set-cases}
 use Rattle.bench.proofs.group.all_sent.Statement.{statement}
 use Rattle.bench.proofs.group.all_sent.Tie as tie
 
 abbrev Inv-loop : tie.InvT-loop
 Inv-loop n columns frames₀ number₀ frames number =
     (1 ≤ number) × (number ≤ n + 1) × (n ≤ most-columns) × (length frames ≡ most-columns)
-    × ((k : ℕ) →
-    1 ≤ k → k < number → send-refusal (record-of columns k) longest-frame ≡ 0 →
-    Frame-of (record-of columns k) (frame-bytes (record-of columns k .who .settings) (record-of columns k .round) (frame-at frames k)))
+    × ((k : ℕ) → 1 ≤ k → k < number → Sends (record-of columns k) (frame-at frames k))
 
 abbrev μ-loop : tie.MeasureT-loop
 μ-loop n columns frames₀ number₀ frames number = n + 1 - number
@@ -58,7 +51,7 @@ loop-less : tie.Need-loop-less Inv-loop μ-loop
 loop-less c = omega arith
 
 loop-again : tie.Need-loop-again Inv-loop μ-loop
-unfolding record-of frame-at view who-in who-as
+unfolding record-of frame-at
 loop-again c =
     let l = c .before .before .before .loop in
     let columns = c .before .before .before .before .args .t2 in (
@@ -68,9 +61,7 @@ loop-again c =
       simp length-set (l .inv .3),
       λ k low less.
           set-cases (l .frames) frame-past (c .sent .result) (l .number) k
-          (λ (i : ℕ) (x : Frame).
-          send-refusal (record-of columns i) longest-frame ≡ 0 → Frame-of (record-of columns i) (frame-bytes (record-of columns i .who .settings) (record-of columns i .round) x))
-          (l .inv .0) (omega arith) low less (c .sent .ensures) (λ before. l .inv .4 k low before),
+          (λ (i : ℕ) (x : Frame). Sends (record-of columns i) x) (l .inv .0) (omega arith) low less (c .sent .ensures) (λ before. l .inv .4 k low before),
     )
 
 returns : tie.Need-returns Inv-loop μ-loop

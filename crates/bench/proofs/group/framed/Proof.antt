@@ -7,7 +7,7 @@ use borrow.Author.Needs.{needs}
 use lib.ListN.{length, take}
 use Rattle.record.specs.Frame.{command, header-size, header}
 use Rattle.bench.specs.Group.{bench-run}
-use Rattle.bench.proofs.Text.{put-front, puts, put-taken}
+use Rattle.bench.proofs.Listing.Text.{put-front, puts, put-taken}
 use Rattle.bench.proofs.group.framed.Statement.{statement}
 use Rattle.bench.proofs.group.framed.Tie as tie
 
@@ -26,10 +26,11 @@ put-bytes-requires c κs = search needs
 returns : tie.Need-returns
 unfolding header command bench-run
 returns c =
-    let a = c .before .before .before .before .before .before .before .args in
+    let headed = c .before .before .before .before in
+    let a = headed .before .before .before .args in
     let head = header (a .round) (a .from) bench-run in
     let whole : header-size + length (a .operand .now) ≡ length (head ++ a .operand .now) = omega arith in
-    let first = c .before .before .before .before .put-header .ensures ∙ sym (put-front head _) in
+    let first = headed .put-header .ensures ∙ sym (put-front head _) in
     ap (λ (k : ℕ). take k (c .before .put-bytes .last .0)) whole
     ∙ put-taken (puts (omega arith) (record { behind = omega arith; bytes = first }) (c .before .put-bytes .ensures))
 

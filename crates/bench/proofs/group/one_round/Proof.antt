@@ -9,21 +9,21 @@ use Rattle.code.specs.Size.{most-columns}
 use Rattle.column.specs.Call.{Run, Frame-of}
 use Rattle.record.specs.View.{view}
 use Rattle.record.specs.declared.Column.{Column}
-use Rattle.bench_file.specs.Said.{Said}
+use Rattle.bench_file.specs.Scenario.{Scenario}
 use Rattle.bench.specs.Group.{round-calls}
-use Rattle.bench_file.specs.Places.{Located, Places-of}
-use Rattle.bench.specs.Finished.{record-of, column-past}
-use Rattle.bench.specs.Running.{frame-bytes, frame-at}
-use Rattle.bench_file.proofs.Standing.{small}
-use Rattle.bench_file.proofs.Readings.{columns as columns-as}
-use Rattle.bench.proofs.Hearing.{set-cases}
+use Rattle.bench_file.specs.Steps.Places.{Located, Places-of}
+use Rattle.bench.specs.Steps.Finished.{record-of, column-past}
+use Rattle.bench.specs.Steps.Running.{frame-bytes, Sends, frame-at}
+use Rattle.bench_file.proofs.Located.{small}
+use Rattle.bench_file.proofs.OneCommand.Readings.{columns as columns-as}
+use Rattle.bench.proofs.Running.Hearing.{set-cases}
 use Rattle.bench.proofs.group.one_round.Statement.{statement}
 use Rattle.bench.proofs.group.one_round.Tie as tie
 
 abbrev Inv-loop : tie.InvT-loop
 Inv-loop file places round columns frames next₀ number₀ next number =
     (1 ≤ number) × (number ≤ places .n + 1) × (places .n ≤ most-columns) × (length next ≡ most-columns)
-    × ((f : Said) (k : ℕ) →
+    × ((f : Scenario) (k : ℕ) →
     Located file places f → 1 ≤ k → k < number →
     Run (record-of columns k) (round-calls f (λ j. frame-bytes (f .settings) round (frame-at frames j)) round k) (record-of next k))
 
@@ -55,9 +55,9 @@ array-copy-out-column c = omega arith
 
 after-round-requires : tie.Need-after-round-requires Inv-loop μ-loop
 after-round-requires c κs =
-    let l = c .before .before .before .loop .inv in
-    let p = c .before .before .before .before .before .before .pre in
-    (p .0, p .1, p .2, l .0, omega arith)
+    let turn = c .before .before .before in
+    let p = turn .before .before .before .pre in
+    (p .0, p .1, p .2, turn .loop .inv .0, omega arith)
 
 mul-next : tie.Need-mul-next Inv-loop μ-loop
 mul-next c = omega arith
@@ -74,9 +74,9 @@ loop-less c = omega arith
 loop-again : tie.Need-loop-again Inv-loop μ-loop
 unfolding record-of
 loop-again c =
-    let l = c .before .before .before .before .loop in
-    let a = c .before .before .before .before .before .before .before .args in
-    let frames = c .before .before .before .before .before .all-sent .result in (
+    let turn = c .before .before .before .before in let l = turn .loop in
+    let a = turn .before .before .before .args in
+    let frames = turn .before .all-sent .result in (
       omega arith,
       omega arith,
       l .inv .2,
@@ -89,6 +89,7 @@ loop-again c =
     )
 
 returns : tie.Need-returns Inv-loop μ-loop
+unfolding Sends
 returns c f h =
     let l = c .before .before .loop in
     let a = c .before .before .before .before .before .args in

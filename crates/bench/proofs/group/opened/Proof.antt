@@ -11,20 +11,20 @@ use Rattle.record.specs.Record.{opened}
 use Rattle.record.specs.View.{view}
 use Rattle.record.specs.declared.Column.{Column}
 use Rattle.record.proofs.Refusal.{opens-of}
-use Rattle.bench_file.specs.Said.{Said, own-of}
+use Rattle.bench_file.specs.Scenario.{Scenario, own-of}
 use Rattle.bench.specs.Group.{bench-run}
-use Rattle.bench_file.specs.Places.{Located, Places-of}
-use Rattle.bench.specs.Finished.{column-past, record-of}
-use Rattle.bench_file.proofs.Standing.{small}
-use Rattle.bench_file.proofs.Readings.{columns as columns-as}
-use Rattle.bench.proofs.Hearing.{set-cases}
+use Rattle.bench_file.specs.Steps.Places.{Located, Places-of}
+use Rattle.bench.specs.Steps.Finished.{column-past, record-of}
+use Rattle.bench_file.proofs.Located.{small}
+use Rattle.bench_file.proofs.OneCommand.Readings.{columns as columns-as}
+use Rattle.bench.proofs.Running.Hearing.{set-cases}
 use Rattle.bench.proofs.group.opened.Statement.{statement}
 use Rattle.bench.proofs.group.opened.Tie as tie
 
 abbrev Inv-loop : tie.InvT-loop
 Inv-loop file places columns₀ number₀ columns number =
     (1 ≤ number) × (number ≤ places .n + 1) × (places .n ≤ most-columns) × (length columns ≡ most-columns)
-    × ((f : Said) (k : ℕ) (v : Value) →
+    × ((f : Scenario) (k : ℕ) (v : Value) →
     Located file places f → k < number → own-of (f .owns) k ≡ some v → record-of columns k ≡ opened (f .settings) k bench-run v)
 
 abbrev μ-loop : tie.MeasureT-loop
@@ -50,7 +50,7 @@ cast-k : tie.Need-cast-k Inv-loop μ-loop
 cast-k c = omega arith
 
 opened-at-requires : tie.Need-opened-at-requires Inv-loop μ-loop
-opened-at-requires c κs = let l = c .before .before .loop .inv in (c .before .before .before .before .before .pre, l .0, omega arith)
+opened-at-requires c κs = let turn = c .before .before in (turn .before .before .before .pre, turn .loop .inv .0, omega arith)
 
 mul-columns : tie.Need-mul-columns Inv-loop μ-loop
 mul-columns c = omega arith

@@ -2,20 +2,19 @@
 use mathlib.Core.Path.{_≡_, sym, _∙_, ap, ap₂}
 use mathlib.Core.List.{List}
 use mathlib.Core.Option.{Option, some}
-use Prim.Native.Nat.{ℕ, _+_, _-_}
+use Prim.Native.Nat.{ℕ, _+_, _-_, _≤_}
 use native.Mathlib.Omega.{arith}
 use borrow.Author.Needs.{needs}
-use lib.ListN.{take, drop}
-use Rattle.code.specs.Settings.{Settings, settings}
+use lib.ListN.{length, take, drop}
+use Rattle.code.specs.Settings.{Settings}
 use Rattle.record.specs.Record.{opened}
 use Rattle.record.specs.Refusal.{open-refusal}
 use Rattle.record.specs.View.{view}
 use Rattle.record.proofs.Refusal.{opens-of}
 use Rattle.record.proofs.View.{view-opened}
 use Rattle.bench.specs.Group.{bench-run}
-use Rattle.bench_file.specs.Places.{Places-of}
-use Rattle.bench.proofs.Hearing.{stands-inside, stands-none, stands-some}
-use Rattle.bench_file.proofs.Standing.{none-some}
+use Rattle.bench_file.specs.Steps.Places.{Places-of}
+use Rattle.bench_file.proofs.Located.{bytes-at-inside, bytes-at-none, bytes-at-some, none-some}
 use Rattle.bench.proofs.group.opened_at.Statement.{statement}
 use Rattle.bench.proofs.group.opened_at.Tie as tie
 
@@ -26,16 +25,18 @@ empty-requires : tie.Need-empty-requires
 empty-requires c κs = search needs
 
 returns : tie.Need-returns
-returns c f v h e = none-some (sym (stands-none _ (c .before .before .before .before .args .places .w) _ _ (c .before .before .own-at .ensures _ f h) (c .before .if1 .taken)) ∙ e)
+returns c f v h e = let own = c .before .before in none-some (sym (bytes-at-none _ (own .before .before .args .places .w) _ _ (own .own-at .ensures _ f h) (c .before .if1 .taken)) ∙ e)
 
 cast-end : tie.Need-cast-end
 cast-end c = search needs
 
-add-end : tie.Need-add-end
+-- an own value's bytes are in the file
+inside : (c : tie.Else1) → let s = c .before .before .before in c .before .own-at .result + s .args .places .w ≤ length (s .args .file .now)
 unfolding Places-of
-add-end c =
-    let s = c .before .before .before .before in
-    omega (arith, stands-inside _ (s .args .places .w) _ _ (c .before .before .own-at .ensures _ (s .pre .0 .0) (s .pre .0 .1)) (c .before .if1 .left))
+inside c = let g = c .before .before .before .pre .0 in bytes-at-inside _ _ _ _ (c .before .own-at .ensures _ (g .0) (g .1)) (c .if1 .left)
+
+add-end : tie.Need-add-end
+add-end c = omega (arith, inside (c .before))
 
 sub-open : tie.Need-sub-open
 sub-open c = search needs
@@ -44,10 +45,7 @@ part-open-start : tie.Need-part-open-start
 part-open-start c = search needs
 
 part-open-end : tie.Need-part-open-end
-unfolding Places-of
-part-open-end c =
-    let s = c .before .before .before .before in
-    omega (arith, stands-inside _ (s .args .places .w) _ _ (c .before .before .own-at .ensures _ (s .pre .0 .0) (s .pre .0 .1)) (c .before .if1 .left))
+part-open-end c = omega (arith, inside (c .before))
 
 open-requires : tie.Need-open-requires
 open-requires c κs = search needs
@@ -55,10 +53,10 @@ open-requires c κs = search needs
 returns-2 : tie.Need-returns-2
 unfolding bench-run
 returns-2 c f v h e =
-    let s = c .before .before .before .before .before .before .before in
-    let a = s .args in
-    let at = c .before .before .before .before .before .own-at .result in
-    let stood = stands-some _ (a .places .w) _ _ (c .before .before .before .before .before .own-at .ensures _ f h) (c .before .before .before .before .if1 .left) in
+    let there = c .before .before .before .before in
+    let a = there .before .before .before .args in
+    let at = there .before .own-at .result in
+    let stood = bytes-at-some _ (a .places .w) _ _ (there .before .own-at .ensures _ f h) (there .if1 .left) in
     let size : at + a .places .w - at ≡ a .places .w = omega arith in
     let whole : _≡_ {A = Option (List ℕ)} (some (take (at + a .places .w - at) (drop at (a .file .now)))) (some v) =
     ap (λ (k : ℕ). some (take k (drop at (a .file .now)))) size ∙ sym stood ∙ e in

@@ -1,6 +1,6 @@
 -- `run` meets its contract: the openings, and three rounds one after the other. Assumes nothing.
 use native.Mathlib.Omega.{arith}
-use Rattle.bench.proofs.Exchanged.{group-ran}
+use Rattle.bench.proofs.Running.Exchanged.{group-ran}
 use Rattle.bench.proofs.group.run.Statement.{statement}
 use Rattle.bench.proofs.group.run.Tie as tie
 

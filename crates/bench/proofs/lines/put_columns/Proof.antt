@@ -4,21 +4,21 @@ use mathlib.Core.List.{List}
 use Prim.Native.Nat.{ℕ, _+_, _*_, _-_, _≤_}
 use native.Mathlib.Omega.{arith}
 use lib.ListN.{length}
-use Rattle.bench_file.specs.Said.{Said}
+use Rattle.bench_file.specs.Scenario.{Scenario}
 use Rattle.bench.specs.Listing.{column-lines}
 use Rattle.bench.specs.Entry.{line-room}
-use Rattle.bench_file.specs.Places.{Located}
-use Rattle.bench.specs.Finished.{All-finished, record-of}
-use Rattle.bench.proofs.Text.{Left, left-all, left-more, left-none}
-use Rattle.bench.proofs.Wording.{lines-all, lines-next, lines-none}
-use Rattle.bench_file.proofs.Readings.{columns}
+use Rattle.bench_file.specs.Steps.Places.{Located}
+use Rattle.bench.specs.Steps.Finished.{All-finished, record-of}
+use Rattle.bench.proofs.Listing.Text.{Left, left-all, left-more, left-none}
+use Rattle.bench.proofs.Listing.Wording.{lines-all, lines-next, lines-none}
+use Rattle.bench_file.proofs.OneCommand.Readings.{columns}
 use Rattle.bench.proofs.lines.put_columns.Statement.{statement}
 use Rattle.bench.proofs.lines.put_columns.Tie as tie
 
 abbrev Inv-loop : tie.InvT-loop
 Inv-loop output₀ at places columns next₀ number₀ output next number =
     (1 ≤ number) × (number ≤ places .n + 1) × (next + line-room ≤ at + line-room * number) × (length output ≡ length output₀)
-    × ((file : List ℕ) (f : Said) →
+    × ((file : List ℕ) (f : Scenario) →
     Located file places f → All-finished f columns →
     Left at (column-lines f (λ k. record-of columns k .found .held) (places .n) 1) output₀ (column-lines f (λ k. record-of columns k .found .held) (places .n + 1 - number) number) next
     output)
@@ -43,7 +43,7 @@ array-copy-out-column : tie.Need-array-copy-out-column Inv-loop μ-loop
 array-copy-out-column c = omega arith
 
 put-column-requires : tie.Need-put-column-requires Inv-loop μ-loop
-put-column-requires c κs = let s = c .before .before .before .before .before .before in omega (arith, s .pre, c .before .before .before .before .loop .inv)
+put-column-requires c κs = let l = c .before .before .before .before in omega (arith, l .before .before .pre, l .loop .inv)
 
 add-number : tie.Need-add-number Inv-loop μ-loop
 add-number c = omega arith
@@ -54,10 +54,11 @@ loop-less c = omega arith
 loop-again : tie.Need-loop-again Inv-loop μ-loop
 unfolding All-finished record-of
 loop-again c =
-    let s = c .before .before .before .before .before .before .before .before .before in
-    let a = s .args in
-    let l = c .before .before .before .before .before .before .before .loop in
-    let put = c .before .before .put-column in (
+    let line = c .before .before in
+    let turn = line .before .before .before .before .before in
+    let s = turn .before .before in let a = s .args in
+    let l = turn .loop in
+    let put = line .put-column in (
       omega arith,
       omega arith,
       omega (arith, put .ensures .1, l .inv .2),

@@ -10,8 +10,8 @@ use Rattle.code.specs.Size.{most-columns, vector-room}
 use Rattle.grading.specs.Value.{entries}
 use Rattle.grading.specs.Held.{held-as, held-in}
 use Rattle.bench.specs.Listing.{held-text, holdings-text}
-use Rattle.bench.proofs.Text.{Left, left-all, left-room, left-more, left-none}
-use Rattle.bench.proofs.Wording.{held-entry, holdings-all, holdings-next, holdings-none, value-in}
+use Rattle.bench.proofs.Listing.Text.{Left, left-all, left-room, left-more, left-none}
+use Rattle.bench.proofs.Listing.Wording.{held-entry, holdings-all, holdings-next, holdings-none, value-in}
 use Rattle.bench.proofs.lines.put_holdings.Statement.{statement}
 use Rattle.bench.proofs.lines.put_holdings.Tie as tie
 
@@ -25,8 +25,7 @@ abbrev μ-loop : tie.MeasureT-loop
 
 loop-holds : tie.Need-loop-holds Inv-loop μ-loop
 loop-holds c =
-    let s = c .before in
-    let a = s .args in
+    let s = c .before in let a = s .args in
     let long : length (a .t5) ≡ vector-room = search needs in
     let few : length (a .t6) ≡ most-columns = search needs in
     (omega arith, refl, long, few, rw (holdings-all (a .n) (a .w) (a .t5) (a .t6)) (left-all _ _ _))
@@ -54,9 +53,8 @@ array-read-put-held c = omega arith
 
 put-held-requires : tie.Need-put-held-requires Inv-loop μ-loop
 put-held-requires c κs =
-    let l = c .before .before .before .before .loop in
-    let s = c .before .before .before .before .before .before in
-    let a = s .args in
+    let turn = c .before .before .before .before in let l = turn .loop in
+    let s = turn .before .before in let a = s .args in
     let size : l .j * a .w + a .w - l .j * a .w ≡ a .w = omega arith in
     let next = holdings-next (a .n) (a .w) (a .t5) (a .t6) (l .j) (omega arith) in
     let long = ap length next ∙ length-append (32 ∷ held-text (held-as (take (a .w) (drop (l .j * a .w) (a .t5))) (getD (a .t6) (l .j) 0))) _ in
@@ -70,10 +68,11 @@ loop-less c = omega arith
 
 loop-again : tie.Need-loop-again Inv-loop μ-loop
 loop-again c =
-    let l = c .before .before .before .before .before .before .before .loop in
-    let s = c .before .before .before .before .before .before .before .before .before in
+    let put = c .before .before in
+    let turn = put .before .before .before .before .before in let l = turn .loop in
+    let s = turn .before .before in
     let a = s .args in
-    let d = c .before .before .put-held in
+    let d = put .put-held in
     let size : l .j * a .w + a .w - l .j * a .w ≡ a .w = omega arith in (
       omega arith,
       d .kept .0 ∙ l .inv .1,

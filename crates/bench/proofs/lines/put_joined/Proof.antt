@@ -3,11 +3,10 @@ use mathlib.Core.Path.{_≡_, refl, sym, _∙_, ap}
 use mathlib.Core.List.{List, [], _∷_}
 use Prim.Native.Nat.{ℕ, _+_, _-_, _≤_, _<_}
 use native.Mathlib.Omega.{arith}
-use denote.Ref.{now}
 use lib.ListN.{length, getD, drop, length-append, drop-of-length-le}
 use Rattle.bench.specs.Listing.{decimal, pointed, joined}
-use Rattle.bench.proofs.Text.{Left, left-all, left-room, left-more, left-none, next-fits, put-nothing, put-alike, puts}
-use Rattle.bench.proofs.Wording.{joined-first, pointed-next}
+use Rattle.bench.proofs.Listing.Text.{Left, left-all, left-room, left-more, left-none, next-fits, put-nothing, put-alike, puts}
+use Rattle.bench.proofs.Listing.Wording.{joined-first, pointed-next}
 use Rattle.bench.proofs.lines.put_joined.Statement.{statement}
 use Rattle.bench.proofs.lines.put_joined.Tie as tie
 
@@ -51,13 +50,16 @@ put-decimal-requires c κs =
     let s = c .before .before .before .before .before in
     omega (arith, c .shared-slice-known2 .given 0, room (s .args .at) (s .args .bytes .now) (s .args .output .now) (omega arith) (s .pre))
 
+abbrev start : tie.After-put-decimal Inv-loop μ-loop → tie.Start Inv-loop μ-loop
+start first = let read = first .before in read .before .before .before .before .before
+
 loop-holds : tie.Need-loop-holds Inv-loop μ-loop
 loop-holds c =
-    let s = c .before .before .before .before .before .before .before .before in
-    let d = c .before .before .put-decimal in (
+    let first = c .before .before in
+    let s = start first in (
       omega arith,
       refl,
-      next-fits _ (d .ensures) (room (s .args .at) (s .args .bytes .now) (s .args .output .now) (omega arith) (s .pre)),
+      next-fits _ (first .put-decimal .ensures) (room (s .args .at) (s .args .bytes .now) (s .args .output .now) (omega arith) (s .pre)),
       left-all _ _ _,
     )
 
@@ -69,8 +71,8 @@ cast-put-marked c = omega (arith, c .shared-slice-known3 .given (c .before .befo
 
 put-marked-requires : tie.Need-put-marked-requires Inv-loop μ-loop
 put-marked-requires c κs =
-    let l = c .before .before .before .loop in
-    let bytes = c .before .before .before .before .before .before .before .before .before .before .before .before .args .bytes .now in
+    let turn = c .before .before .before in let l = turn .loop in
+    let bytes = start (turn .before .before .before) .args .bytes .now in
     let next = ap length (pointed-next bytes (l .i) (omega arith)) ∙ length-append (46 ∷ decimal (getD bytes (l .i) 0)) _ in
     omega (arith, c .shared-slice-known3 .given (l .i), next, left-room (l .inv .3) (l .inv .2))
 
@@ -82,9 +84,10 @@ loop-less c = omega arith
 
 loop-again : tie.Need-loop-again Inv-loop μ-loop
 loop-again c =
-    let l = c .before .before .before .before .before .before .loop in
-    let bytes = c .before .before .before .before .before .before .before .before .before .before .before .before .before .before .before .args .bytes .now in
-    let m = c .before .before .put-marked in (
+    let put = c .before .before in
+    let turn = put .before .before .before .before in let l = turn .loop in
+    let bytes = start (turn .before .before .before) .args .bytes .now in
+    let m = put .put-marked in (
       omega arith,
       m .kept .0 ∙ l .inv .1,
       l .inv .2,
@@ -96,12 +99,11 @@ same-length c = c .before .loop .inv .1 ∙ c .before .before .before .before .p
 
 returns-2 : tie.Need-returns-2 Inv-loop μ-loop
 returns-2 c =
-    let s = c .before .before .before .before .before .before .before .before .before .before in
-    let l = c .before .loop in
+    let first = c .before .before .before .before in let s = start first in let l = c .before .loop in
     let bytes = s .args .bytes .now in
     let past : length bytes ≤ l .i = omega arith in
     let none : pointed (drop (l .i) bytes) ≡ [] = pointed-none _ (drop-of-length-le bytes past) in
-    put-alike (sym (joined-first bytes (omega arith))) (puts (omega (arith, s .pre)) (c .before .before .before .before .put-decimal .ensures) (left-none none (l .inv .3)))
+    put-alike (sym (joined-first bytes (omega arith))) (puts (omega (arith, s .pre)) (first .put-decimal .ensures) (left-none none (l .inv .3)))
 
 pub put-joined-spec : {M : Type 1} → statement M
 put-joined-spec =

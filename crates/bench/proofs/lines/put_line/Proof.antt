@@ -8,7 +8,7 @@ use lib.ListN.{length, length-append}
 use Rattle.code.specs.Settings.{settings}
 use Rattle.grading.specs.Held.{Held, held-in}
 use Rattle.bench.specs.Listing.{decimal, holdings-text, column-line}
-use Rattle.bench.proofs.Text.{puts, put-alike}
+use Rattle.bench.proofs.Listing.Text.{puts, put-alike}
 use Rattle.bench.proofs.lines.put_line.Statement.{statement}
 use Rattle.bench.proofs.lines.put_line.Tie as tie
 
@@ -21,18 +21,18 @@ put-decimal-requires c κs = let s = c .before .before in omega (arith, s .pre, 
 
 put-holdings-requires : tie.Need-put-holdings-requires
 put-holdings-requires c κs =
-    let s = c .before .before .before .before .before .before in
-    let number = c .before .before .before .put-decimal in
+    let number = c .before .before .before in
+    let s = number .before .before .before in
     omega
-    (arith, s .pre, number .ensures .behind, number .kept .0, line-length (s .args .number) (held-in (settings (s .args .n) 0 (s .args .w)) (s .args .values) (s .args .confidences)))
+    (arith, s .pre, number .put-decimal .ensures .behind, number .put-decimal .kept .0, line-length (s .args .number) (held-in (settings (s .args .n) 0 (s .args .w)) (s .args .values) (s .args .confidences)))
 
 put-byte-requires : tie.Need-put-byte-requires
 put-byte-requires c κs =
-    let s = c .before .before .before .before .before .before .before .before .before .before in
-    let number = c .before .before .before .before .before .before .before .put-decimal in
-    let holdings = c .before .before .before .put-holdings in
+    let holdings = c .before .before .before in
+    let number = holdings .before .before .before .before in
+    let s = number .before .before .before in
     omega
-    (arith, s .pre, number .ensures .behind, number .kept .0, holdings .ensures .behind, holdings .kept .0, line-length (s .args .number) (held-in (settings (s .args .n) 0 (s .args .w)) (s .args .values) (s .args .confidences)))
+    (arith, s .pre, number .put-decimal .ensures .behind, number .put-decimal .kept .0, holdings .put-holdings .ensures .behind, holdings .put-holdings .kept .0, line-length (s .args .number) (held-in (settings (s .args .n) 0 (s .args .w)) (s .args .values) (s .args .confidences)))
 
 same-length : tie.Need-same-length
 same-length c = search needs
@@ -40,9 +40,12 @@ same-length c = search needs
 returns : tie.Need-returns
 unfolding column-line
 returns c =
-    let s = c .before .before .before .before .before .before .before .before .before .before .before .before .before in
+    let last = c .before .before in
+    let holdings = last .before .before .before .before in
+    let number = holdings .before .before .before .before in
+    let s = number .before .before .before in
     put-alike (append-assoc (decimal (s .args .number)) _ _)
-    (puts (omega (arith, s .pre)) (puts (omega (arith, s .pre)) (c .before .before .before .before .before .before .before .before .before .before .put-decimal .ensures) (c .before .before .before .before .before .before .put-holdings .ensures)) (c .before .before .put-byte .ensures))
+    (puts (omega (arith, s .pre)) (puts (omega (arith, s .pre)) (number .put-decimal .ensures) (holdings .put-holdings .ensures)) (last .put-byte .ensures))
 
 pub put-line-spec : {M : Type 1} → statement M
 put-line-spec =

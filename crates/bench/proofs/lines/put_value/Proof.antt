@@ -3,8 +3,8 @@ use mathlib.Core.Path.{sym, _∙_, ap}
 use native.Mathlib.Omega.{arith}
 use borrow.Author.Needs.{needs}
 use lib.ListN.{length}
-use Rattle.bench.proofs.Text.{put-alike}
-use Rattle.bench.proofs.Wording.{blank-text, filled-text}
+use Rattle.bench.proofs.Listing.Text.{put-alike}
+use Rattle.bench.proofs.Listing.Wording.{blank-text, filled-text}
 use Rattle.bench.proofs.lines.put_value.Statement.{statement}
 use Rattle.bench.proofs.lines.put_value.Tie as tie
 

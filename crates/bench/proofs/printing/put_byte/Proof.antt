@@ -2,7 +2,7 @@
 use mathlib.Core.Path.{refl}
 use native.Mathlib.Omega.{arith}
 use borrow.Author.Needs.{needs}
-use Rattle.bench.proofs.Text.{put-one}
+use Rattle.bench.proofs.Listing.Text.{put-one}
 use Rattle.bench.proofs.printing.put_byte.Statement.{statement}
 use Rattle.bench.proofs.printing.put_byte.Tie as tie
 

@@ -7,7 +7,7 @@ use native.Mathlib.Omega.{arith}
 use denote.Ref.{now}
 use lib.ListN.{length, take, drop, length-set}
 use lib.Seq.{paste, paste-zero, paste-suc, take-length}
-use Rattle.bench.specs.Printing.{put-at}
+use Rattle.bench.specs.Steps.Printing.{put-at}
 use Rattle.bench.proofs.printing.put_bytes.Statement.{statement}
 use Rattle.bench.proofs.printing.put_bytes.Tie as tie
 

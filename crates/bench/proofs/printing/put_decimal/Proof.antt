@@ -3,8 +3,8 @@ use mathlib.Core.Path.{sym}
 use native.Mathlib.Omega.{arith}
 use borrow.Author.Needs.{needs}
 use Rattle.bench.specs.Listing.{digit}
-use Rattle.bench.proofs.Text.{puts, put-alike}
-use Rattle.bench.proofs.Decimal.{one-digit, two-digits, three-digits, one-long, two-long, three-long}
+use Rattle.bench.proofs.Listing.Text.{puts, put-alike}
+use Rattle.bench.proofs.Listing.Decimal.{one-digit, two-digits, three-digits, one-long, two-long, three-long}
 use Rattle.bench.proofs.printing.put_decimal.Statement.{statement}
 use Rattle.bench.proofs.printing.put_decimal.Tie as tie
 

@@ -4,11 +4,11 @@ use borrow.Author.Needs.{needs}
 use lib.ListN.{drop, length-drop}
 use Rattle.code.specs.Settings.{settings}
 use Rattle.record.proofs.Refusal.{first-of-here, first-of-next, first-of-last}
-use Rattle.bench_file.specs.Said.{Said}
-use Rattle.bench_file.specs.Places.{Located, Places-of}
+use Rattle.bench_file.specs.Scenario.{Scenario}
+use Rattle.bench_file.specs.Steps.Places.{Located, Places-of}
 use Rattle.bench_file.specs.Command.{is-known, form-refusal, command-refusal}
-use Rattle.bench_file.proofs.Faults.{form-fits, own-fits}
-use Rattle.bench_file.proofs.Standing.{small}
+use Rattle.bench_file.proofs.OneCommand.Faults.{form-fits, form-as, value-as, own-fits}
+use Rattle.bench_file.proofs.Located.{small}
 use Rattle.bench_file.proofs.commands.command_refusal.Statement.{statement}
 use Rattle.bench_file.proofs.commands.command_refusal.Tie as tie
 
@@ -21,11 +21,11 @@ form-refusal-requires c κs = let s = small _ _ _ (c .before .pre .0 .1) in (s .
 
 -- the line of the form, at hand
 form :
-    (c : tie.After-form-refusal) (f : Said) → Located (c .before .before .args .file .now) (c .before .before .args .places) f →
+    (c : tie.After-form-refusal) (f : Scenario) → Located (c .before .before .args .file .now) (c .before .before .args .places) f →
     c .form-refusal .result ≡ form-refusal f (drop (c .before .before .args .at) (c .before .before .args .file .now))
 form c f h =
     let s = c .before .before in
-    c .form-refusal .ensures f (s .args .places .n) _ (h .settings) (h .late) (s .pre .2 .command) (length-drop (s .args .at) (s .args .file .now))
+    c .form-refusal .ensures ∙ sym (form-as f (s .args .places) _ (h .settings) (h .late) (s .pre .2 .command) (length-drop (s .args .at) (s .args .file .now)))
 
 returns : tie.Need-returns
 unfolding command-refusal
@@ -41,8 +41,9 @@ operand-refusal-requires c κs =
 returns-2 : tie.Need-returns-2
 unfolding command-refusal
 returns-2 c f h =
-    let b = c .before .before .before .before .before .pre .2 in
-    sym (first-of-next _ (sym (form (c .before .before .before) f h) ∙ c .before .before .if1 .left) (first-of-here _ (sym (c .before .operand-refusal .ensures _ f _ h b)) (c .if2 .taken)))
+    let formed = c .before .before in
+    let b = formed .before .before .before .pre .2 in
+    sym (first-of-next _ (sym (form (formed .before) f h) ∙ formed .if1 .left) (first-of-here _ (sym (c .before .operand-refusal .ensures _ f _ h b)) (c .if2 .taken)))
 
 value-refusal-requires : tie.Need-value-refusal-requires
 unfolding Places-of
@@ -55,11 +56,12 @@ value-refusal-requires c κs =
 returns-3 : tie.Need-returns-3
 unfolding command-refusal settings
 returns-3 c f h =
-    let b = c .before .before .before .before .before .before .pre .2 in
+    let formed = c .before .before .before in
+    let s = formed .before .before .before in
     sym
-    (first-of-next _ (sym (form (c .before .before .before .before) f h) ∙ c .before .before .before .if1 .left)
-    (first-of-next _ (sym (c .before .before .operand-refusal .ensures _ f _ h b) ∙ c .before .if2 .left)
-    (first-of-last _ ∙ sym (c .value-refusal .ensures f (ap (λ s. s .w) (h .settings)) (b .command)))))
+    (first-of-next _ (sym (form (formed .before) f h) ∙ formed .if1 .left)
+    (first-of-next _ (sym (c .before .before .operand-refusal .ensures _ f _ h (s .pre .2)) ∙ c .before .if2 .left)
+    (first-of-last _ ∙ value-as f _ _ _ (ap (λ s. s .w) (h .settings)) (s .pre .2 .command) ∙ sym (c .value-refusal .ensures))))
 
 pub command-refusal-spec : {M : Type 1} → statement M
 command-refusal-spec =

@@ -16,7 +16,7 @@ add-result c = search needs
 
 returns : tie.Need-returns
 unfolding command-size
-returns c = ((λ n. simp (c .before .head-size .ensures .0, c .body-size .ensures .0 n)), omega arith)
+returns c = (simp (c .before .head-size .ensures .0, c .body-size .ensures .0), omega arith)
 
 pub command-size-spec : {M : Type 1} → statement M
 command-size-spec = tie.close (tie.spec head-size-requires body-size-requires add-result returns)

@@ -1,7 +1,7 @@
 -- `head_at` meets its contract: four bytes from the place on. Assumes nothing.
 use mathlib.Core.Path.{sym, _∙_}
 use borrow.Author.Needs.{needs}
-use Rattle.bench_file.proofs.Faults.{byte-in, command-at}
+use Rattle.bench_file.proofs.OneCommand.Faults.{byte-in, command-at}
 use Rattle.bench_file.proofs.commands.head_at.Statement.{statement}
 use Rattle.bench_file.proofs.commands.head_at.Tie as tie
 

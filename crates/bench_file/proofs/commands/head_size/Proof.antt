@@ -16,12 +16,14 @@ returns-2 c = let n = c .before .before .args .command in (simp (ne-eqb n 4 (c .
 returns-3 : tie.Need-returns-3
 unfolding head-size
 returns-3 c =
-    let n = c .before .before .before .args .command in (simp (ne-eqb n 4 (c .before .before .if1 .left), ne-eqb n 2 (c .before .if2 .left), eq-eqb n 3 (c .if3 .taken)), omega arith)
+    let own = c .before .before in
+    (simp (ne-eqb _ 4 (own .if1 .left), ne-eqb _ 2 (c .before .if2 .left), eq-eqb _ 3 (c .if3 .taken)), omega arith)
 
 returns-4 : tie.Need-returns-4
 unfolding head-size
 returns-4 c =
-    let n = c .before .before .before .args .command in (simp (ne-eqb n 4 (c .before .before .if1 .left), ne-eqb n 2 (c .before .if2 .left), ne-eqb n 3 (c .if3 .left)), omega arith)
+    let own = c .before .before in
+    (simp (ne-eqb _ 4 (own .if1 .left), ne-eqb _ 2 (c .before .if2 .left), ne-eqb _ 3 (c .if3 .left)), omega arith)
 
 pub head-size-spec : {M : Type 1} → statement M
 head-size-spec = tie.close (tie.spec returns returns-2 returns-3 returns-4)

@@ -4,12 +4,11 @@ use mathlib.Core.List.{List, [], _∷_}
 use Prim.Native.Nat.{ℕ}
 use native.Mathlib.Omega.{arith}
 use borrow.Author.Needs.{needs}
-use Rattle.code.specs.Settings.{settings}
 use Rattle.record.proofs.Refusal.{first-of-here, first-of-next, first-of-last}
 use Rattle.bench_file.specs.Command.{command-in, is-known, column-refusal}
-use Rattle.bench_file.specs.Step.{Begins}
+use Rattle.bench_file.specs.Steps.CommandAt.{Begins}
 use Rattle.bench_file.specs.declared.commands.Head.{Head}
-use Rattle.bench_file.proofs.Faults.{heading-round, operand-end, operand-own, operand-message}
+use Rattle.bench_file.proofs.OneCommand.Faults.{heading-round, operand-end, operand-own, operand-message}
 use Rattle.bench_file.proofs.commands.operand_refusal.Statement.{statement}
 use Rattle.bench_file.proofs.commands.operand_refusal.Tie as tie
 
@@ -31,9 +30,10 @@ checks-round-refusal-requires c κs = search needs
 
 returns-3 : tie.Need-returns-3
 returns-3 c file f bs h b =
-    let head = c .before .before .heading-of .ensures (f .settings) bs b in
+    let other = c .before .before .before in
+    let head = c .before .before .heading-of .ensures bs b in
     sym
-    (operand-message f bs (c .before .before .before .before .before .if1 .left) (c .before .before .before .if2 .left) (b .command) (sym (head .0)) (sym (head .1)) (sym (head .2))
+    (operand-message f bs (other .before .before .if1 .left) (other .if2 .left) (b .command) (sym (head .0)) (sym (head .1)) (sym (head .2))
     ∙ first-of-here _ (sym (c .before .checks-round-refusal .ensures)) (c .if3 .taken))
 
 -- a command that begins so
@@ -46,18 +46,19 @@ begins h = record { command = refl; first = refl; second = refl; third = refl }
 
 message-refusal-requires : tie.Need-message-refusal-requires
 message-refusal-requires c κs =
-    let s = c .before .before .before .before .before .before .before in
+    let other = c .before .before .before in
+    let s = other .before .before .before .before in
     let b = begins (s .args .head) in
-    let any = settings 1 0 1 in
-    let round = heading-round _ _ (b .command) (ap is-known (b .command) ∙ s .pre .1) (c .before .before .before .before .before .if1 .left) (c .before .before .before .if2 .left) any (c .before .before .heading-of .ensures any _ b .0) (sym (c .before .checks-round-refusal .ensures) ∙ c .if3 .left) in
+    let round = heading-round _ _ (b .command) (ap is-known (b .command) ∙ s .pre .1) (other .before .before .if1 .left) (other .if2 .left) (c .before .before .heading-of .ensures _ b .0) (sym (c .before .checks-round-refusal .ensures) ∙ c .if3 .left) in
     omega (arith, round .0, round .1)
 
 returns-4 : tie.Need-returns-4
 returns-4 c file f bs h b =
-    let head = c .before .before .before .heading-of .ensures (f .settings) bs b in
+    let other = c .before .before .before .before in
+    let head = c .before .before .before .heading-of .ensures bs b in
     c .message-refusal .ensures _ f h
     ∙ sym
-    (operand-message f bs (c .before .before .before .before .before .before .if1 .left) (c .before .before .before .before .if2 .left) (b .command) (sym (head .0)) (sym (head .1)) (sym (head .2))
+    (operand-message f bs (other .before .before .if1 .left) (other .if2 .left) (b .command) (sym (head .0)) (sym (head .1)) (sym (head .2))
     ∙ first-of-next _ (sym (c .before .before .checks-round-refusal .ensures) ∙ c .before .if3 .left) (first-of-last _))
 
 pub operand-refusal-spec : {M : Type 1} → statement M

@@ -1,16 +1,18 @@
 -- `value_refusal` meets its contract: the value of an own command is the bytes behind its two. Assumes nothing.
-use mathlib.Core.Path.{_≡_, sym, _∙_, ap}
-use Prim.Native.Nat.{ℕ, _+_, _-_}
+use mathlib.Core.Path.{_≡_, sym, _∙_}
+use mathlib.Core.Bool.{cond}
+use Prim.Native.Nat.{_+_, _-_}
 use native.Mathlib.Omega.{arith}
+use borrow.Author.Tests.{eq-eqb, ne-eqb}
 use borrow.Author.Needs.{needs}
-use lib.ListN.{take, drop}
-use Rattle.grading.specs.Value.{is-blank}
-use Rattle.bench_file.proofs.Faults.{value-own, value-other}
+use Rattle.record.specs.Refusal.{line, blank-refusal}
+use Rattle.bench_file.specs.Steps.CommandAt.{value-fault}
 use Rattle.bench_file.proofs.commands.value_refusal.Statement.{statement}
 use Rattle.bench_file.proofs.commands.value_refusal.Tie as tie
 
 returns : tie.Need-returns
-returns c f e k = sym (value-other f _ (λ z. c .if1 .taken (sym k ∙ z)))
+unfolding value-fault
+returns c = simp (ne-eqb (c .before .before .args .command) 4 (c .if1 .taken))
 
 add-start : tie.Need-add-start
 add-start c = search needs
@@ -30,19 +32,21 @@ part-is-blank-end c = omega (arith, c .before .before .pre .2 (c .if1 .left))
 is-blank-requires : tie.Need-is-blank-requires
 is-blank-requires c κs = search needs
 
-returns-2 : tie.Need-returns-2
-returns-2 c f e k =
-    let a = c .before .before .before .before .before .args in
+-- the value's bytes
+own :
+    (c : tie.After-is-blank) →
+    let a = c .before .before .before .before .args in value-fault (a .file .now) (a .at) (a .command) (a .w) ≡ cond (c .is-blank .result) 6 0
+unfolding value-fault blank-refusal line
+own c =
+    let left = c .before .before in let a = left .before .before .args in
     let size : a .at + 2 + a .w - (a .at + 2) ≡ a .w = omega arith in
-    let blank = ap (λ (i : ℕ). is-blank (take i (drop (a .at + 2) (a .file .now)))) (sym size) ∙ sym (c .before .is-blank .ensures) ∙ c .if2 .taken in
-    sym (value-own f _ (a .at) (a .w) e (k ∙ c .before .before .before .if1 .left) ∙ simp blank)
+    simp (eq-eqb (a .command) 4 (left .if1 .left), c .is-blank .ensures, size)
+
+returns-2 : tie.Need-returns-2
+returns-2 c = sym (own (c .before) ∙ simp (c .if2 .taken))
 
 returns-3 : tie.Need-returns-3
-returns-3 c f e k =
-    let a = c .before .before .before .before .before .args in
-    let size : a .at + 2 + a .w - (a .at + 2) ≡ a .w = omega arith in
-    let blank = ap (λ (i : ℕ). is-blank (take i (drop (a .at + 2) (a .file .now)))) (sym size) ∙ sym (c .before .is-blank .ensures) ∙ c .if2 .left in
-    sym (value-own f _ (a .at) (a .w) e (k ∙ c .before .before .before .if1 .left) ∙ simp blank)
+returns-3 c = sym (own (c .before) ∙ simp (c .if2 .left))
 
 pub value-refusal-spec : {M : Type 1} → statement M
 value-refusal-spec =

@@ -2,7 +2,7 @@
 use mathlib.Core.Path.{refl}
 use native.Mathlib.Omega.{arith}
 use borrow.Author.Needs.{needs}
-use Rattle.bench_file.specs.Places.{message-index}
+use Rattle.bench_file.specs.Steps.Places.{message-index}
 use Rattle.bench_file.proofs.places.index_of_message.Statement.{statement}
 use Rattle.bench_file.proofs.places.index_of_message.Tie as tie
 

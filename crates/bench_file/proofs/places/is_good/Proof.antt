@@ -1,7 +1,7 @@
 -- `is_good` meets its contract: a column is good where it has an own value. Assumes nothing.
 use borrow.Author.Needs.{needs}
-use Rattle.bench_file.specs.Said.{is-good}
-use Rattle.bench_file.proofs.Standing.{stands-taken}
+use Rattle.bench_file.specs.Scenario.{is-good}
+use Rattle.bench_file.proofs.Located.{bytes-at-taken}
 use Rattle.bench_file.proofs.places.is_good.Statement.{statement}
 use Rattle.bench_file.proofs.places.is_good.Tie as tie
 
@@ -10,7 +10,7 @@ own-at-requires c κs = search needs
 
 returns : tie.Need-returns
 unfolding is-good
-returns c file f h = stands-taken file (c .before .args .places .w) _ _ (c .own-at .ensures file f h)
+returns c file f h = bytes-at-taken file (c .before .args .places .w) _ _ (c .own-at .ensures file f h)
 
 pub is-good-spec : {M : Type 1} → statement M
 is-good-spec = tie.close (tie.spec own-at-requires returns)

@@ -1,5 +1,4 @@
 -- `message_at` meets its contract: what is kept for the message. Assumes nothing.
-use native.Mathlib.Omega.{arith}
 use borrow.Author.Needs.{needs}
 use Rattle.bench_file.proofs.places.message_at.Statement.{statement}
 use Rattle.bench_file.proofs.places.message_at.Tie as tie
@@ -14,9 +13,7 @@ element-copy-out-result : tie.Need-element-copy-out-result
 element-copy-out-result c = search needs
 
 returns : tie.Need-returns
-returns c file f h =
-    let a = c .before .before .args in
-    rw (c .before .index-of-message .ensures .0) (h .messages (a .round) (a .from) (a .to) (omega arith) (omega arith) (omega arith) (omega arith) (omega arith) (omega arith))
+returns c file f h = rw (c .before .index-of-message .ensures .0) (h .messages _ _ _ (c .before .before .pre))
 
 pub message-at-spec : {M : Type 1} → statement M
 message-at-spec =

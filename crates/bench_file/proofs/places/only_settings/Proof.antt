@@ -2,21 +2,21 @@
 use mathlib.Core.Path.{refl}
 use Prim.Native.Nat.{_-_}
 use Rattle.code.specs.Size.{most-columns}
-use Rattle.bench_file.specs.Said.{only-settings, own-of, message-of}
+use Rattle.bench_file.specs.Scenario.{only-settings, own-of, message-of}
 use Rattle.bench_file.specs.Command.{no-message}
-use Rattle.bench_file.specs.Places.{Stands, most-messages, message-index}
-use Rattle.bench_file.proofs.Standing.{zeros-at, none-some}
+use Rattle.bench_file.specs.Steps.Places.{Bytes-at, most-messages, message-index}
+use Rattle.bench_file.proofs.Located.{zeros-at, none-some}
 use Rattle.bench_file.proofs.places.only_settings.Statement.{statement}
 use Rattle.bench_file.proofs.places.only_settings.Tie as tie
 
 returns : tie.Need-returns
-unfolding only-settings Stands own-of message-of no-message
+unfolding only-settings Bytes-at own-of message-of no-message
 returns c file h =
     record {
       settings = refl;
       fine = h;
       owns = λ k l m. zeros-at most-columns (k - 1);
-      messages = λ m k l ml mh kl kh ll lh. zeros-at most-messages (message-index m k l);
+      messages = λ m k l range. zeros-at most-messages (message-index m k l);
       late = refl;
       opens = λ k v e. none-some e;
     }

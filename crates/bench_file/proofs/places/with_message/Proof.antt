@@ -4,10 +4,10 @@ use native.Mathlib.Omega.{arith}
 use lib.ListN.{length}
 use borrow.Author.Needs.{needs}
 use Rattle.record.specs.Frame.{operand-size}
-use Rattle.bench_file.specs.Said.{message, with-message}
+use Rattle.bench_file.specs.Scenario.{message, with-message}
 use Rattle.bench_file.specs.Command.{no-message}
-use Rattle.bench_file.specs.Places.{most-messages, Stands}
-use Rattle.bench_file.proofs.Standing.{Message-range, message-more}
+use Rattle.bench_file.specs.Steps.Places.{most-messages}
+use Rattle.bench_file.proofs.Located.{message-more}
 use Rattle.bench_file.proofs.places.with_message.Statement.{statement}
 use Rattle.bench_file.proofs.places.with_message.Tie as tie
 
@@ -21,23 +21,20 @@ element-write-more : tie.Need-element-write-more
 element-write-more c = search needs
 
 returns : tie.Need-returns
-unfolding with-message Stands no-message message
-returns c file f x h filled fits e =
+unfolding with-message no-message message
+returns c file f x h stored =
     let a = c .before .args in
-    let p = c .before .pre in
     let long : length (a .places .messages) ≡ most-messages = search needs in
     let at = c .index-of-message .ensures in
-    let range : Message-range (a .round) (a .from) (a .to) = record { round = p .0; from-low = p .2; from-high = p .3; to-low = p .4; to-high = p .5 } in
     record {
       settings = h .settings;
       fine = h .fine;
       owns = h .owns;
       messages =
-          λ m k l ml mh kl kh ll lh.
+          λ m k l range.
           rw (at .0)
-          (message-more file (operand-size (f .settings)) (a .at) (message (a .round) (a .from) (a .to) x) (f .messages) (a .places .messages) range
-          (omega (arith, at .0, at .1)) (filled, fits, e) m k l (record { round = ml; from-low = kl; from-high = kh; to-low = ll; to-high = lh })
-          (h .messages m k l ml mh kl kh ll lh));
+          (message-more file (operand-size (f .settings)) (a .at) (message (a .round) (a .from) (a .to) x) (f .messages) (a .places .messages) (c .before .pre)
+          (omega (arith, at .0, at .1)) stored m k l range (h .messages m k l range));
       late = refl;
       opens = h .opens;
     }

@@ -4,9 +4,8 @@ use native.Mathlib.Omega.{arith}
 use lib.ListN.{length}
 use borrow.Author.Needs.{needs}
 use Rattle.code.specs.Size.{most-columns}
-use Rattle.bench_file.specs.Said.{with-own, own-of}
-use Rattle.bench_file.specs.Places.{Stands}
-use Rattle.bench_file.proofs.Standing.{own-more, own-opens}
+use Rattle.bench_file.specs.Scenario.{with-own, own-of}
+use Rattle.bench_file.proofs.Located.{own-more, own-opens}
 use Rattle.bench_file.proofs.places.with_own.Statement.{statement}
 use Rattle.bench_file.proofs.places.with_own.Tie as tie
 
@@ -23,15 +22,15 @@ element-write-more : tie.Need-element-write-more
 element-write-more c = search needs
 
 returns : tie.Need-returns
-unfolding with-own Stands own-of
-returns c file f v h some fits e good =
+unfolding with-own own-of
+returns c file f v h stored good =
     let a = c .args in
     let long : length (a .places .owns) ≡ most-columns = search needs in
     record {
       settings = h .settings;
       fine = h .fine;
       owns =
-          own-more file (a .places .w) (a .at) (a .column) v (f .owns) (a .places .owns) (omega arith) (c .pre .0) (some, fits, e) (h .owns);
+          own-more file (a .places .w) (a .at) (a .column) v (f .owns) (a .places .owns) (omega arith) (c .pre .0) stored (h .owns);
       messages = h .messages;
       late = h .late;
       opens = λ k u. own-opens (f .settings) (a .column) v (f .owns) good (h .opens) k u;

@@ -42,9 +42,9 @@ use denote.Triple.Table.{entered, cited}
 use denote.Triple.Walked.{says, needs, Stays, stay-none, walkOf, goes-none, Walks, ends-at, walked, walk-meets}
 use denote.Exit.{yes}
 use denote.Triple.Clauses.{ensured, lasts}
-use Rattle.bench_file.specs.Said.{Said}
-use Rattle.bench_file.specs.Places.{Located, Places-of}
-use Rattle.bench_file.specs.Step.{Stepped}
+use Rattle.bench_file.specs.Scenario.{Scenario}
+use Rattle.bench_file.specs.Steps.Places.{Located, Places-of}
+use Rattle.bench_file.specs.Steps.CommandAt.{Stepped}
 use Rattle.bench_file.specs.declared.commands.Step.{Step}
 use Rattle.bench_file.specs.declared.places.Places.{Places}
 use Rattle.bench_file.specs.declared.reader.Reader.{Reader}
@@ -88,7 +88,7 @@ module _ {M : Type 1} (𝓤 : URA M) (H : Heap 𝓤) (A : Atoms 𝓤) (W : Given
   Asked = Places-of (now (d .file)) p × (d .at ≤ length (now (d .file)))
 
   abbrev Answered : Step → Type 0
-  Answered r = (f : Said) → Located (now (d .file)) p f → Stepped f (now (d .file)) (d .at) (r .turn) (r .places)
+  Answered r = (f : Scenario) → Located (now (d .file)) p f → Stepped f (now (d .file)) (d .at) (r .turn) (r .places)
 
   abbrev vals : Vals step.signature (κ, tt)
   vals = (mach ∷ [], (placed ∷ [], tt))
@@ -136,8 +136,8 @@ module _ {M : Type 1} (𝓤 : URA M) (H : Heap 𝓤) (A : Atoms 𝓤) (W : Given
       move ! (3 ∷ 0 ∷ []) $ use2 W (raw (StepAt 𝓤 H A mem run .pre to)) (asked right) $ frame ! $ frame ! $ done !)
 
   -- all that is kept of `step_at`'s promise is what it says of the step: nothing was lent to be changed
-  said : (r : Step) → ent 𝓤 (ensured 𝓤 H A step-at.ended (step-at.clauses 𝓤 H A mem run) (κ, tt) (d .file, (d .at, (p, tt))) tt r) (fact 𝓤 (Answered r))
-  said r = exE 𝓤 _ (λ ws. snd∗ 𝓤 (sem 𝓤 H A (lasts step-at.ended (κ, tt) (d .file, (d .at, (p, tt))) ws)) (fact 𝓤 (Answered r)))
+  answers : (r : Step) → ent 𝓤 (ensured 𝓤 H A step-at.ended (step-at.clauses 𝓤 H A mem run) (κ, tt) (d .file, (d .at, (p, tt))) tt r) (fact 𝓤 (Answered r))
+  answers r = exE 𝓤 _ (λ ws. snd∗ 𝓤 (sem 𝓤 H A (lasts step-at.ended (κ, tt) (d .file, (d .at, (p, tt))) ws)) (fact 𝓤 (Answered r)))
 
   exits : (r : Step) (u : Val) → Answered r → ent 𝓤 (⋆ 𝓤 H A (‵ (S.the-row .own r (u ∷ [])) ∷ (‵ (flft κ q) ⊛ ‵ ftrue) ∷ (‵ Own ⊛ ‵ OwnPlaces) ∷ [])) (Post u)
   exits r u e =
@@ -155,7 +155,7 @@ module _ {M : Type 1} (𝓤 : URA M) (H : Heap 𝓤) (A : Atoms 𝓤) (W : Given
         move ! (10 ∷ []) $ use1 W (raw (StepAt 𝓤 H A mem run .pre to) ⊛ (‵ Own ⊛ ‵ OwnPlaces)) (apart right (wt .1 .1 .0 .fits)) $ split ! $
         calls-at ! fm (StepAt 𝓤 H A mem run) known to (and-then ! (load ! (from ! (stop !)) (look ! 4 refl)) (and-then ! (load ! (from ! (stop !)) (look ! 2 refl)) (and-then ! (load ! (from ! (stop !)) (look ! 6 refl)) (no-more !)))) (λ u.
         use1 W (later (some (λ (r : Step). ((‵ (flft κ q) ⊛ ‵ ftrue) ⊛ ‵ (S.the-row .own r (u ∷ []))) ⊛ raw (ensured 𝓤 H A step-at.ended (step-at.clauses 𝓤 H A mem run) (κ, tt) (d .file, (d .at, (p, tt))) tt r)))) (id⊢ 𝓤 _) $ await ! tt $ pick ! (λ r.
-        split ! $ move ! (1 ∷ []) $ use1 W (raw (fact 𝓤 (Answered r))) (said r) $ heard ! (Answered r) (λ e. split ! $ move ! (1 ∷ []) $
+        split ! $ move ! (1 ∷ []) $ use1 W (raw (fact 𝓤 (Answered r))) (answers r) $ heard ! (Answered r) (λ e. split ! $ move ! (1 ∷ []) $
         -- in front stand the step, the lifetime's token, and what reader and places own; behind them the locals from the last to the first
         peeks ! S.the-row (Is S.the-row) (shows 𝓤 H A S.the-row) r (u ∷ []) (λ step-is.
         land ! (from ! (stop !)) (init ! 11 refl (LL.lawful S.the-type S′.the-laws 𝓤 H A W .typed r _ step-is .0)) $

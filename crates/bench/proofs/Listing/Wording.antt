@@ -17,10 +17,10 @@ use Rattle.code.proofs.ValidSettings.{values-fit}
 use Rattle.grading.specs.Value.{Value, is-blank, entries}
 use Rattle.grading.specs.Held.{Held, held-as, held-in}
 use Rattle.counting.proofs.Placed.{cut-at}
-use Rattle.bench_file.specs.Said.{Said, is-good}
+use Rattle.bench_file.specs.Scenario.{Scenario, is-good}
 use Rattle.bench.specs.Listing.{decimal, pointed, joined, value-text, held-text, holdings-text, column-line, column-lines}
 use Rattle.bench.specs.Entry.{line-room}
-use Rattle.bench.proofs.Decimal.{decimal-short, two-short}
+use Rattle.bench.proofs.Listing.Decimal.{decimal-short, two-short}
 
 -- bytes joined by a point
 pub joined-first : (bs : List ℕ) → 0 < length bs → joined bs ≡ decimal (getD bs 0 0) ++ pointed (drop 1 bs)
@@ -124,24 +124,24 @@ unfolding held-in values-in settings value-size
 held-alike n t w vs cs = refl
 
 -- the lines of all columns
-pub lines-all : (f : Said) (held : ℕ → List Held) (n : ℕ) → column-lines f held n 1 ≡ column-lines f held (n + 1 - 1) 1
+pub lines-all : (f : Scenario) (held : ℕ → List Held) (n : ℕ) → column-lines f held n 1 ≡ column-lines f held (n + 1 - 1) 1
 lines-all f held n = let e : n + 1 - 1 ≡ n = omega arith in rw e refl
 
 pub lines-next :
-    (f : Said) (held : ℕ → List Held) (n k : ℕ) → 1 ≤ k → k ≤ n →
+    (f : Scenario) (held : ℕ → List Held) (n k : ℕ) → 1 ≤ k → k ≤ n →
     column-lines f held (n + 1 - k) k ≡ cond (is-good f k) (column-line k (held k)) [] ++ column-lines f held (n + 1 - (k + 1)) (k + 1)
 unfolding column-lines
 lines-next f held n k l h =
     let e : n + 1 - k ≡ suc (n + 1 - (k + 1)) = omega arith in
     rw (e, add-one k) refl
 
-pub lines-none : (f : Said) (held : ℕ → List Held) (many k : ℕ) → many ≡ 0 → column-lines f held many k ≡ []
+pub lines-none : (f : Scenario) (held : ℕ → List Held) (many k : ℕ) → many ≡ 0 → column-lines f held many k ≡ []
 unfolding column-lines
 lines-none f held many k e = rw e refl
 
 -- they depend on what the good columns hold
 pub lines-same :
-    (f : Said) (held others : ℕ → List Held) (many k : ℕ) → ((j : ℕ) → is-good f j ≡ true → held j ≡ others j) →
+    (f : Scenario) (held others : ℕ → List Held) (many k : ℕ) → ((j : ℕ) → is-good f j ≡ true → held j ≡ others j) →
     column-lines f held many k ≡ column-lines f others many k
 unfolding column-lines
 lines-same f held others zero k h = refl

@@ -1,12 +1,11 @@
 -- What a command that is not turned down says, and where its value or check values stand. An own value is one to open with, since every
 -- line of opening was tested; a message of rounds two and three has the size of its round's operand. Assumes nothing.
 use mathlib.Core.Path.{_≡_, refl, sym, _∙_, ap}
-use mathlib.Core.Bool.{Bool, true, false, cond}
+use mathlib.Core.Bool.{true}
 use mathlib.Core.List.{List}
 use mathlib.Core.Logic.{_⊎_, inl, inr}
 use Prim.Native.Nat.{ℕ, _+_, _≤_}
 use native.Mathlib.Omega.{arith}
-use lib.Dec.{eqb}
 use lib.ListN.{length, getD, take, drop, length-drop}
 use lib.Seq.{drop-drop, length-take-le}
 use borrow.Author.Tests.{eq-eqb, ne-eqb, le-leb}
@@ -15,18 +14,18 @@ use Rattle.grading.specs.Value.{Value}
 use Rattle.record.specs.Frame.{operand-size}
 use Rattle.record.specs.Refusal.{line, number-refusal, size-refusal, blank-refusal, open-refusal}
 use Rattle.record.proofs.Refusal.{first-of-zero, first-of-next, first-of-last}
-use Rattle.bench_file.specs.Said.{Said, Message, message, with-own, with-message}
-use Rattle.bench_file.specs.Command.{command-in, is-known, head-size, body-size, command-size, body-in, form-refusal, message-in, checks-round-refusal, operand-refusal, value-refusal, command-refusal, after-command}
+use Rattle.bench_file.specs.Scenario.{Scenario, Message, message, with-own, with-message}
+use Rattle.bench_file.specs.Command.{command-in, is-known, head-size, body-size, command-size, body-in, form-refusal, round-in, message-in, checks-round-refusal, operand-refusal, value-refusal, command-refusal, after-command}
 use Rattle.bench_file.specs.declared.places.Places.{Places}
-use Rattle.bench_file.proofs.Faults.{form-fits, own-inside, Message-inside, message-inside, heading-round, round-inside, known-cases, body-own, operand-own, operand-message, own-fits}
+use Rattle.bench_file.proofs.OneCommand.Faults.{form-fits, own-inside, Message-inside, message-inside, heading-round, round-inside, known-cases, body-own, operand-own, operand-message, own-fits}
 
 -- all lines passed
-record Passed (f : Said) (bs : List ℕ) : Type 0 where
+record Passed (f : Scenario) (bs : List ℕ) : Type 0 where
   form : form-refusal f bs ≡ 0
   operand : operand-refusal f bs ≡ 0
   value : value-refusal f bs ≡ 0
 
-passed : (f : Said) (bs : List ℕ) → command-refusal f bs ≡ 0 → Passed f bs
+passed : (f : Scenario) (bs : List ℕ) → command-refusal f bs ≡ 0 → Passed f bs
 unfolding command-refusal
 passed f bs e =
     let first = first-of-zero _ _ e in
@@ -43,16 +42,16 @@ opens-with s k v fine low high size filled =
     first-of-next _ fine (first-of-next _ number (first-of-next _ long (first-of-last _ ∙ filled)))
 
 -- the settings, by number
-pub columns : (f : Said) (p : Places) → f .settings ≡ settings (p .n) (p .t) (p .w) → f .settings .n ≡ p .n
+pub columns : (f : Scenario) (p : Places) → f .settings ≡ settings (p .n) (p .t) (p .w) → f .settings .n ≡ p .n
 unfolding settings
 columns f p e = ap (λ (s : Settings). s .n) e
 
-bytes : (f : Said) (p : Places) → f .settings ≡ settings (p .n) (p .t) (p .w) → f .settings .w ≡ p .w
+bytes : (f : Scenario) (p : Places) → f .settings ≡ settings (p .n) (p .t) (p .w) → f .settings .w ≡ p .w
 unfolding settings
 bytes f p e = ap (λ (s : Settings). s .w) e
 
 -- an own value
-pub record Own-read (file : List ℕ) (p : Places) (f : Said) (at k : ℕ) (v : Value) : Type 0 where
+pub record Own-read (file : List ℕ) (p : Places) (f : Scenario) (at k : ℕ) (v : Value) : Type 0 where
   pub low : 1 ≤ k
   pub high : k ≤ p .n
   pub size : at + 2 + p .w ≤ length file
@@ -61,7 +60,7 @@ pub record Own-read (file : List ℕ) (p : Places) (f : Said) (at k : ℕ) (v : 
   pub after : after-command f (drop at file) ≡ with-own f k v
 
 pub own-read :
-    (file : List ℕ) (p : Places) (f : Said) (at : ℕ) → f .settings ≡ settings (p .n) (p .t) (p .w) → settings-refusal (f .settings) ≡ 0 → at ≤ length file → command-refusal f (drop at file) ≡ 0 →
+    (file : List ℕ) (p : Places) (f : Scenario) (at : ℕ) → f .settings ≡ settings (p .n) (p .t) (p .w) → settings-refusal (f .settings) ≡ 0 → at ≤ length file → command-refusal f (drop at file) ≡ 0 →
     command-in (drop at file) ≡ 4 → Own-read file p f at (getD (drop at file) 1 0) (body-in (f .settings) (drop at file))
 unfolding after-command value-refusal
 own-read file p f at same fine inside e own =
@@ -85,7 +84,7 @@ own-read file p f at same fine inside e own =
     }
 
 -- a message
-pub record Message-read (file : List ℕ) (f : Said) (at c : ℕ) (m : Message) : Type 0 where
+pub record Message-read (file : List ℕ) (f : Scenario) (at c : ℕ) (m : Message) : Type 0 where
   pub round-low : 1 ≤ m .round
   pub round-high : m .round ≤ 3
   pub columns : Message-inside f (m .from) (m .to)
@@ -93,27 +92,15 @@ pub record Message-read (file : List ℕ) (f : Said) (at c : ℕ) (m : Message) 
   pub operand : m .operand ≡ take (operand-size (f .settings) (m .round)) (drop (at + head-size c) file)
   pub after : after-command f (drop at file) ≡ with-message f m
 
--- the operand of a message is what stands behind its head
-operand-body : (s : Settings) (bs : List ℕ) → message-in s bs .operand ≡ body-in s bs
-unfolding message-in message
-operand-body s bs = go (eqb (command-in bs) 2)
-  where
-    go :
-        (q : Bool) →
-        cond q (message 1 (getD bs 1 0) (getD bs 2 0) (body-in s bs)) (message (getD bs 1 0) (getD bs 2 0) (getD bs 3 0) (body-in s bs)) .operand
-        ≡ body-in s bs
-    go true = refl
-    go false = refl
-
--- and it has the size of its round
+-- the operand of a message has the size of its round
 checks-alike : (s : Settings) (m : ℕ) → 2 ≤ m → operand-size s 2 ≡ operand-size s m
 unfolding operand-size
 checks-alike s m h = rw (ne-eqb m 1 (λ z. omega arith)) refl
 
 body-round :
-    (s : Settings) (bs : List ℕ) → (command-in bs ≡ 2) ⊎ (command-in bs ≡ 3) → checks-round-refusal (command-in bs) (message-in s bs .round) ≡ 0 →
-    body-size s (command-in bs) ≡ operand-size s (message-in s bs .round)
-unfolding body-size message-in message
+    (s : Settings) (bs : List ℕ) → (command-in bs ≡ 2) ⊎ (command-in bs ≡ 3) → checks-round-refusal (command-in bs) (round-in bs) ≡ 0 →
+    body-size s (command-in bs) ≡ operand-size s (round-in bs)
+unfolding body-size round-in
 body-round s bs (inl two) e = rw two refl
 body-round s bs (inr three) e =
     let round = round-inside (getD bs 1 0) (rw three at e) in
@@ -129,9 +116,9 @@ message-cases c e no-own no-end = go (known-cases c e)
     go (inr (inr (inr end))) = absurd (no-end end)
 
 pub message-read :
-    (file : List ℕ) (f : Said) (at : ℕ) → at ≤ length file → command-refusal f (drop at file) ≡ 0 → (command-in (drop at file) ≡ 4 → ⊥) →
+    (file : List ℕ) (f : Scenario) (at : ℕ) → at ≤ length file → command-refusal f (drop at file) ≡ 0 → (command-in (drop at file) ≡ 4 → ⊥) →
     (command-in (drop at file) ≡ 15 → ⊥) → Message-read file f at (command-in (drop at file)) (message-in (f .settings) (drop at file))
-unfolding after-command command-size body-in
+unfolding after-command command-size body-in message-in message
 message-read file f at inside e no-own no-end =
     let bs = drop at file in
     let s = f .settings in
@@ -140,14 +127,14 @@ message-read file f at inside e no-own no-end =
     let lines = passed f bs e in
     let fits = form-fits f bs (lines .form) in
     let allowed = first-of-zero _ _ (sym (operand-message f bs no-end no-own refl refl refl refl) ∙ lines .operand) in
-    let round = heading-round bs (m .round) refl (fits .0) no-end no-own s refl (allowed .0) in
+    let round = heading-round bs (m .round) refl (fits .0) no-end no-own refl (allowed .0) in
     let size = body-round s bs (message-cases c (fits .0) no-own no-end) (allowed .0) in
     record {
       round-low = round .0;
       round-high = round .1;
       columns = message-inside f _ _ _ (first-of-zero _ _ (allowed .1) .0);
       size = omega (arith, fits .1, size, length-drop at file);
-      operand = operand-body s bs ∙ ap (λ (k : ℕ). take k (drop (head-size c) bs)) size ∙ ap (take (operand-size s (m .round))) (drop-drop (head-size c) at file);
+      operand = ap (λ (k : ℕ). take k (drop (head-size c) bs)) size ∙ ap (take (operand-size s (m .round))) (drop-drop (head-size c) at file);
       after = rw (ne-eqb (command-in bs) 4 no-own) refl;
     }
 
@@ -157,5 +144,5 @@ same-message {m} {k} {l} {x} a b c = rw (a, b, c) refl
 
 -- a command that is not turned down is all there
 pub command-fits :
-    (file : List ℕ) (f : Said) (at : ℕ) → at ≤ length file → command-refusal f (drop at file) ≡ 0 → at + command-size (f .settings) (command-in (drop at file)) ≤ length file
+    (file : List ℕ) (f : Scenario) (at : ℕ) → at ≤ length file → command-refusal f (drop at file) ≡ 0 → at + command-size (f .settings) (command-in (drop at file)) ≤ length file
 command-fits file f at inside e = omega (arith, form-fits f (drop at file) (passed f (drop at file) e .form) .1, length-drop at file)

@@ -22,10 +22,10 @@ use Rattle.record.proofs.Refusal.{first-of-next, first-of-last, Opens, opens-of
 use Rattle.record.proofs.Size.{frame-fits-slot}
 use Rattle.column.proofs.Step.{step-of, after-take-round}
 use Rattle.gradecast.proofs.Proper.{Proper, proper-open, proper-fine, proper-step}
-use Rattle.bench_file.specs.Said.{Said, own-of, is-good}
+use Rattle.bench_file.specs.Scenario.{Scenario, own-of, is-good}
 use Rattle.bench.specs.Group.{bench-run, taking-first, calls-from, round-calls}
-use Rattle.bench.specs.Finished.{Finished, record-of, column-past, All-finished}
-use Rattle.bench.specs.Running.{Round-run, Group-ran}
+use Rattle.bench.specs.Steps.Finished.{Finished, record-of, column-past, All-finished}
+use Rattle.bench.specs.Steps.Running.{Round-run, Group-ran}
 
 -- the first call of a run
 pub run-head : {r z : Rec} {ds : List Call} → Run r ds z → (c : Call) (cs : List Call) → ds ≡ c ∷ cs → (q : Rec) × Leads c r q × Run q cs z
@@ -106,7 +106,7 @@ module _ (s : Settings) (k : ℕ) (v : Value) (o : Opens s k v) where
           (first .2)
 
 -- a good column has an own value
-pub good-own : (f : Said) (k : ℕ) → is-good f k ≡ true → (v : Value) × (own-of (f .owns) k ≡ some v)
+pub good-own : (f : Scenario) (k : ℕ) → is-good f k ≡ true → (v : Value) × (own-of (f .owns) k ≡ some v)
 unfolding is-good is-taken
 good-own f k e = go (own-of (f .owns) k) refl e
   where
@@ -127,7 +127,7 @@ by-round a b c d (suc (suc (suc zero))) = c
 by-round a b c d (suc (suc (suc (suc m)))) = d
 
 module _
-    (f : Said) (first second third last : List Column)
+    (f : Scenario) (first second third last : List Column)
     (opened-all : (k : ℕ) (v : Value) → own-of (f .owns) k ≡ some v → record-of first k ≡ opened (f .settings) k bench-run v)
     (opens : (k : ℕ) (v : Value) → own-of (f .owns) k ≡ some v → open-refusal (f .settings) k v ≡ 0)
     (one : Round-run f 1 first second) (two : Round-run f 2 second third) (three : Round-run f 3 third last)

@@ -24,22 +24,22 @@ pub record Message : Type 0 where
 unfoldable pub message : (round from to : ℕ) → (operand : List ℕ) → Message
 message m k l x = record { round = m; from = k; to = l; operand = x }
 
--- what the commands read so far have said, the last one first
-pub record Said : Type 0 where
+-- a scenario: what the commands read so far have said, the last one first
+pub record Scenario : Type 0 where
   pub settings : Settings
   pub owns : List Own
   pub messages : List Message
 
 -- a group of which nothing more is said yet
-unfoldable pub only-settings : Settings → Said
+unfoldable pub only-settings : Settings → Scenario
 only-settings s = record { settings = s; owns = []; messages = [] }
 
 -- with one own value more
-unfoldable pub with-own : Said → (column : ℕ) → Value → Said
+unfoldable pub with-own : Scenario → (column : ℕ) → Value → Scenario
 with-own f k v = record { settings = f .settings; owns = record { column = k; value = v } ∷ f .owns; messages = f .messages }
 
 -- with one message more
-unfoldable pub with-message : Said → Message → Said
+unfoldable pub with-message : Scenario → Message → Scenario
 with-message f m = record { settings = f .settings; owns = f .owns; messages = m ∷ f .messages }
 
 -- the own value of a column; none, a bad column
@@ -48,7 +48,7 @@ own-of [] k = none
 own-of (o ∷ os) k = cond (eqb (o .column) k) (some (o .value)) (own-of os k)
 
 -- whether a column is good
-unfoldable pub is-good : Said → (column : ℕ) → Bool
+unfoldable pub is-good : Scenario → (column : ℕ) → Bool
 is-good f k = is-taken (own-of (f .owns) k)
 
 -- the operand of the message from one column to another in a round, if there is one

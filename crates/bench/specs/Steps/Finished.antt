@@ -9,7 +9,7 @@ use Rattle.record.specs.Record.{Rec}
 use Rattle.record.specs.Refusal.{ask-refusal}
 use Rattle.record.specs.View.{settings-of, view}
 use Rattle.record.specs.declared.Column.{Column}
-use Rattle.bench_file.specs.Said.{Said, is-good}
+use Rattle.bench_file.specs.Scenario.{Scenario, is-good}
 
 -- its result is answered, with the group's settings
 pub record Finished (s : Settings) (c : Column) : Type 0 where
@@ -32,5 +32,5 @@ unfoldable pub record-of : List Column → (column : ℕ) → Rec
 record-of cs k = view (getD cs (k - 1) column-past)
 
 -- every good column has finished
-unfoldable pub All-finished : Said → List Column → Type 0
+unfoldable pub All-finished : Scenario → List Column → Type 0
 All-finished f cs = (k : ℕ) → 1 ≤ k → k ≤ f .settings .n → is-good f k ≡ true → Finished (f .settings) (getD cs (k - 1) column-past)

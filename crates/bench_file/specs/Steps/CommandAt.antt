@@ -1,12 +1,15 @@
 -- One command of a bench file read at a place: the bytes with which it begins, and where reading goes on behind it. Assumes nothing: these
 -- are definitions.
 use mathlib.Core.Path.{_≡_}
+use mathlib.Core.Bool.{cond}
 use mathlib.Core.List.{List}
 use Prim.Native.Nat.{ℕ, _+_, _≤_, _<_, _^_}
-use lib.ListN.{length, getD, drop}
-use Rattle.bench_file.specs.Said.{Said}
+use lib.Dec.{eqb}
+use lib.ListN.{length, getD, take, drop}
+use Rattle.record.specs.Refusal.{blank-refusal}
+use Rattle.bench_file.specs.Scenario.{Scenario}
 use Rattle.bench_file.specs.Command.{command-in, command-size, command-refusal, after-command}
-use Rattle.bench_file.specs.Places.{Located}
+use Rattle.bench_file.specs.Steps.Places.{Located}
 use Rattle.bench_file.specs.declared.places.Places.{Places}
 use Rattle.bench_file.specs.declared.commands.Head.{Head}
 use Rattle.bench_file.specs.declared.commands.Turn.{Turn}
@@ -19,8 +22,12 @@ pub record Begins (bs : List ℕ) (h : Head) : Type 0 where
   pub second : getD bs 2 0 ≡ h .second
   pub third : getD bs 3 0 ≡ h .third
 
+-- 6, of the bytes behind an own command's two
+unfoldable pub value-fault : (file : List ℕ) → (at command w : ℕ) → ℕ
+value-fault file at c w = cond (eqb c 4) (blank-refusal (take w (drop (at + 2) file))) 0
+
 -- a command that is not turned down, after what was said so far, and not the end
-pub record Accepted (file : List ℕ) (f : Said) (at : ℕ) (h : Head) (p : Places) : Type 0 where
+pub record Accepted (file : List ℕ) (f : Scenario) (at : ℕ) (h : Head) (p : Places) : Type 0 where
   pub located : Located file p f
   pub inside : at ≤ length file
   pub fits : length file < 2 ^ 64
@@ -30,7 +37,7 @@ pub record Accepted (file : List ℕ) (f : Said) (at : ℕ) (h : Head) (p : Plac
 
 -- the number by which the command at a place is turned down; the end, and the places of all that was said; or the place of the next
 -- command, and the places of what is said after this one
-unfoldable pub Stepped : Said → (file : List ℕ) → (at : ℕ) → Turn → Places → Type 0
+unfoldable pub Stepped : Scenario → (file : List ℕ) → (at : ℕ) → Turn → Places → Type 0
 Stepped f file at (Refused n) p = (n ≡ command-refusal f (drop at file)) × (n ≡ 0 → ⊥)
 Stepped f file at End p = (command-refusal f (drop at file) ≡ 0) × (command-in (drop at file) ≡ 15) × Located file p f
 Stepped f file at (Next next) p =

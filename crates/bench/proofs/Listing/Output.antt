@@ -11,35 +11,35 @@ use borrow.Author.Tests.{ltb-true, ltb-false}
 use Rattle.code.specs.Entry.{in-front}
 use Rattle.record.specs.Record.{Rec}
 use Rattle.record.specs.declared.Column.{Column}
-use Rattle.bench_file.specs.Said.{Said}
-use Rattle.bench_file.specs.File.{Told, refused, said}
+use Rattle.bench_file.specs.Scenario.{Scenario}
+use Rattle.bench_file.specs.File.{Parse, refused, parsed}
 use Rattle.bench.specs.Listing.{group-line, listing, refused-line}
 use Rattle.bench.specs.Entry.{listing-room, Printed, Bench-says}
-use Rattle.bench_file.specs.Places.{Located}
-use Rattle.bench_file.specs.Reading.{Parsed-as}
-use Rattle.bench.specs.Finished.{record-of}
-use Rattle.bench.specs.Running.{Group-ran}
+use Rattle.bench_file.specs.Steps.Places.{Located}
+use Rattle.bench_file.specs.Steps.Reading.{Parsed-as}
+use Rattle.bench.specs.Steps.Finished.{record-of}
+use Rattle.bench.specs.Steps.Running.{Group-ran}
 use Rattle.bench_file.specs.declared.places.Places.{Places}
-use Rattle.bench.proofs.Wording.{lines-same}
+use Rattle.bench.proofs.Listing.Wording.{lines-same}
 
 module _ (file : List ℕ) (answer : ℕ) (p : Places) where
-  pub answer-small : (t : Told) → Parsed-as t file answer p → answer ≤ 20
+  pub answer-small : (t : Parse) → Parsed-as t file answer p → answer ≤ 20
   unfolding Parsed-as
   answer-small (refused n) h = omega (arith, h .0, h .2)
-  answer-small (said f) h = omega (arith, h .0)
+  answer-small (parsed f) h = omega (arith, h .0)
 
-  pub refused-printed : (t : Told) → Parsed-as t file answer p → (answer ≡ 0 → ⊥) → Printed t (refused-line answer)
+  pub refused-printed : (t : Parse) → Parsed-as t file answer p → (answer ≡ 0 → ⊥) → Printed t (refused-line answer)
   unfolding Parsed-as Printed
   refused-printed (refused n) h e = ap refused-line (h .0)
-  refused-printed (said f) h e = absurd (e (h .0))
+  refused-printed (parsed f) h e = absurd (e (h .0))
 
-  pub said-located : (t : Told) → Parsed-as t file answer p → answer ≡ 0 → (f : Said) × (t ≡ said f) × Located file p f
+  pub parsed-located : (t : Parse) → Parsed-as t file answer p → answer ≡ 0 → (f : Scenario) × (t ≡ parsed f) × Located file p f
   unfolding Parsed-as
-  said-located (refused n) h e = absurd (h .1 (sym (h .0) ∙ e))
-  said-located (said f) h e = (f, refl, h .1)
+  parsed-located (refused n) h e = absurd (h .1 (sym (h .0) ∙ e))
+  parsed-located (parsed f) h e = (f, refl, h .1)
 
 -- the listing of the run
-pub run-printed : (t : Told) (f : Said) (columns : List Column) → t ≡ said f → Group-ran f columns → Printed t (listing f (λ k. record-of columns k .found .held))
+pub run-printed : (t : Parse) (f : Scenario) (columns : List Column) → t ≡ parsed f → Group-ran f columns → Printed t (listing f (λ k. record-of columns k .found .held))
 unfolding Printed listing
 run-printed t f columns e ran =
     rw e (

@@ -5,77 +5,33 @@ use mathlib.Core.Path.{_≡_, refl, sym, _∙_, ap, ap₂, subst}
 use mathlib.Core.Bool.{Bool, true, false, cond}
 use mathlib.Core.List.{List, [], _++_}
 use mathlib.Core.Option.{Option, none, some}
-use Prim.Native.Nat.{ℕ, zero, suc, _+_, _*_, _≤_}
+use Prim.Native.Nat.{ℕ, zero, suc, _≤_}
 use native.Mathlib.Omega.{arith}
 use lib.Dec.{eqb}
-use lib.ListN.{length, take, drop, take-append-drop}
-use lib.Seq.{take-length}
-use Rattle.code.specs.Settings.{Settings, settings-refusal, check-count, value-size}
-use Rattle.code.specs.Vector.{has-checks, glued, cut}
-use Rattle.code.specs.Entry.{values-in}
-use Rattle.code.specs.Promise.{Checks-there}
-use Rattle.code.proofs.Vectors.Checks.{checks-there}
-use Rattle.code.proofs.Vectors.Cut.{glued-cut}
-use Rattle.grading.specs.Value.{Value, Vector}
-use Rattle.record.specs.Frame.{operand-size, frame-size, operand-in, checks-in}
+use Rattle.code.specs.Settings.{Settings, settings-refusal}
+use Rattle.grading.specs.Value.{Value}
 use Rattle.record.specs.Record.{Rec, opened}
 use Rattle.record.specs.Refusal.{open-refusal}
-use Rattle.column.specs.Call.{Call, Run, Passes, here, later, Operand, Frame-of}
+use Rattle.column.specs.Call.{Call, Run, Passes, here, later, Frame-of}
 use Rattle.record.proofs.Refusal.{Opens, opens-of}
-use Rattle.column.proofs.Frame.{operand-length}
-use Rattle.rounds.proofs.Rows.{Sized, checked-vector}
+use Rattle.column.proofs.Outcome.{frame-unique}
 use Rattle.gradecast.proofs.Proper.{proper-open}
 use Rattle.gradecast.proofs.Walk.{run-passes, to-last}
-use Rattle.bench_file.specs.Said.{Said, own-of, is-good, message-of}
+use Rattle.bench_file.specs.Scenario.{Scenario, own-of, is-good, message-of}
 use Rattle.bench.specs.Group.{bench-run, framed, heard-in, taking-first, calls-from, round-calls, Group-run}
 use Rattle.bench.specs.Listing.{group-line, listing}
 use Rattle.bench.specs.Promise.{One-listing}
-use Rattle.bench.proofs.Wording.{lines-same}
-use Rattle.bench.proofs.Exchanged.{In-round, next-round-of, good-own}
-
--- check values as bytes
-checks-unique :
-    (s : Settings) (vs : Vector) (x y : List ℕ) → settings-refusal s ≡ 0 → Sized s vs → length x ≡ check-count s * value-size s →
-    length y ≡ check-count s * value-size s → has-checks s vs (checks-in s x) ≡ true → has-checks s vs (checks-in s y) ≡ true → x ≡ y
-unfolding checks-in values-in Checks-there
-checks-unique s vs x y fine sized long also a b =
-    let there = checks-there s vs fine (checked-vector s vs _ a sized) in
-    let same = there .2 (cut (check-count s) (value-size s) x) a ∙ sym (there .2 (cut (check-count s) (value-size s) y) b) in
-    sym (bytes x long) ∙ ap glued same ∙ bytes y also
-  where
-    bytes : (z : List ℕ) → length z ≡ check-count s * value-size s → glued (cut (check-count s) (value-size s) z) ≡ z
-    bytes z e = glued-cut (check-count s) (value-size s) z (omega arith) ∙ ap (λ (k : ℕ). take k z) (sym e) ∙ take-length z
+use Rattle.bench.proofs.Listing.Wording.{lines-same}
+use Rattle.bench.proofs.Running.Exchanged.{In-round, next-round-of, good-own}
 
 -- a run's last record
 passes-none : {r z : Rec} {cs rest : List Call} → Passes r cs z rest → cs ≡ [] → z ≡ r
 passes-none (here r cs) e = refl
 passes-none (later r q z c cs rest l p) e = absurd (let x : _≡_ {A = ℕ} 0 1 = cc in omega arith)
 
-module _ (s : Settings) (k : ℕ) (v : Value) (o : Opens s k v) where
-  -- the operand and the frame of a round
-  operand-unique :
-      (m : ℕ) (r : Rec) (x y : List ℕ) → In-round s k v m r → length x ≡ operand-size s m → length y ≡ operand-size s m → Operand m (r .who) (r .found) x → Operand m (r .who) (r .found) y → x ≡ y
-  unfolding Operand operand-size
-  operand-unique zero r x y p long also a b = absurd a
-  operand-unique (suc zero) r x y p long also a b = a ∙ sym b
-  operand-unique (suc (suc zero)) r x y p long also a b =
-      checks-unique s (r .found .heard) x y (o .fine) (p .proper .heard (omega (arith, p .round))) long also (rw (p .proper .settings) at a) (rw (p .proper .settings) at b)
-  operand-unique (suc (suc (suc zero))) r x y p long also a b =
-      checks-unique s (r .found .agreed) x y (o .fine) (p .proper .agreed (omega (arith, p .round))) long also (rw (p .proper .settings) at a) (rw (p .proper .settings) at b)
-  operand-unique (suc (suc (suc (suc m)))) r x y p long also a b = absurd a
-
-  frame-unique : (m : ℕ) (r : Rec) (a b : List ℕ) → In-round s k v m r → Frame-of r a → Frame-of r b → a ≡ b
-  unfolding Frame-of operand-in
-  frame-unique m r a b p x y =
-      let size : (bs : List ℕ) → length bs ≡ frame-size (r .who .settings) (r .round) → length (drop 4 bs) ≡ operand-size s m =
-      λ bs e. operand-length (r .who .settings) (r .round) bs e ∙ ap₂ operand-size (p .proper .settings) (p .round) in
-      let same =
-      operand-unique m r (drop 4 a) (drop 4 b) p (size a (x .1)) (size b (y .1)) (subst (λ (i : ℕ). Operand i (r .who) (r .found) (drop 4 a)) (p .round) (x .2))
-      (subst (λ (i : ℕ). Operand i (r .who) (r .found) (drop 4 b)) (p .round) (y .2)) in
-      sym (take-append-drop 4 a) ∙ ap₂ _++_ (x .0 ∙ sym (y .0)) same ∙ take-append-drop 4 b
-
-  run-unique : (m : ℕ) (r q z : Rec) (cs : List Call) → In-round s k v m r → Run r cs q → Run r cs z → q ≡ z
-  run-unique m r q z cs p x y = sym (passes-none (to-last s k bench-run v o (p .proper) y (run-passes x)) refl)
+run-unique :
+    (s : Settings) (k : ℕ) (v : Value) → Opens s k v → (m : ℕ) (r q z : Rec) (cs : List Call) → In-round s k v m r → Run r cs q → Run r cs z → q ≡ z
+run-unique s k v o m r q z cs p x y = sym (passes-none (to-last s k bench-run v o (p .proper) y (run-passes x)) refl)
 
 opened-round : (s : Settings) (k : ℕ) (v : Value) → Opens s k v → In-round s k v 1 (opened s k bench-run v)
 unfolding opened
@@ -83,7 +39,7 @@ opened-round s k v o = record { proper = proper-open s k bench-run v o; round = 
 
 -- the same frames of good columns make the same calls
 heard-alike :
-    (f : Said) (frames sent : ℕ → List ℕ) (m l k : ℕ) → (is-good f k ≡ true → frames k ≡ sent k) → heard-in f frames m l k ≡ heard-in f sent m l k
+    (f : Scenario) (frames sent : ℕ → List ℕ) (m l k : ℕ) → (is-good f k ≡ true → frames k ≡ sent k) → heard-in f frames m l k ≡ heard-in f sent m l k
 unfolding heard-in
 heard-alike f frames sent m l k h = go (eqb k l) (is-good f k) refl
   where
@@ -100,7 +56,7 @@ unfolding calls-from
 calls-alike heard others zero k h = refl
 calls-alike heard others (suc n) k h = ap₂ (taking-first k) (h k) (calls-alike heard others n (suc k) h)
 
-module _ (f : Said) (opens : (k : ℕ) (v : Value) → own-of (f .owns) k ≡ some v → open-refusal (f .settings) k v ≡ 0) where
+module _ (f : Scenario) (opens : (k : ℕ) (v : Value) → own-of (f .owns) k ≡ some v → open-refusal (f .settings) k v ≡ 0) where
   -- every record of a run is in its round
   pub in-round :
       (records : ℕ → ℕ → Rec) (frames : ℕ → ℕ → List ℕ) → Group-run f records frames → (k : ℕ) (v : Value) → own-of (f .owns) k ≡ some v →
@@ -139,8 +95,8 @@ module _ (f : Said) (opens : (k : ℕ) (v : Value) → own-of (f .owns) k ≡ so
             frames-same x fine =
                 let v = good-own f x fine in
                 let o = opens-of (f .settings) x (v .0) (opens x (v .0) (v .1)) in
-                frame-unique (f .settings) x (v .0) o (suc j) (records (suc j) x) _ _
-                (in-round records frames one x (v .0) (v .1) fine (suc j) (omega arith) (omega arith)) (one .sends (suc j) x (omega arith) (omega arith) fine)
+                let p = in-round records frames one x (v .0) (v .1) fine (suc j) (omega arith) (omega arith) in
+                frame-unique (records (suc j) x) _ _ (ap settings-refusal (p .proper .settings) ∙ o .fine) (one .sends (suc j) x (omega arith) (omega arith) fine)
                 (subst (λ (r : Rec). Frame-of r (sent (suc j) x)) (sym (before x fine)) (two .sends (suc j) x (omega arith) (omega arith) fine))
 
 pub one-listing : One-listing

@@ -9,7 +9,7 @@ use lib.ListN.{length, set, take, drop, length-append, length-drop, take-append-
 use lib.Seq.{length-take-le, take-at, drop-at, drop-drop, set-split}
 use Rattle.code.specs.Entry.{in-front}
 use Rattle.record.proofs.Front.{front-value}
-use Rattle.bench.specs.Printing.{put-at, Put}
+use Rattle.bench.specs.Steps.Printing.{put-at, Put}
 
 -- what stands before the place and the text are as long as the place behind
 front-length : (at : ℕ) (text old : List ℕ) → at ≤ length old → length (take at old ++ text) ≡ at + length text

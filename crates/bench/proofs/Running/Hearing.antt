@@ -1,6 +1,6 @@
--- What a good column hears in a slot, by the places of the file, and the calls of a round slot by slot: what is heard in a slot and the
--- calls behind it are one run. Lists of columns and frames that are filled one by one. Assumes nothing.
-use mathlib.Core.Path.{_≡_, refl, sym, ap, subst}
+-- What a good column hears in a slot, and the calls of a round slot by slot: what is heard in a slot and the calls behind it are one run.
+-- Lists of columns and frames that are filled one by one. Assumes nothing.
+use mathlib.Core.Path.{_≡_, refl, sym, subst}
 use mathlib.Core.Bool.{Bool, true, false}
 use mathlib.Core.List.{List, [], _++_}
 use mathlib.Core.Option.{Option, none, some}
@@ -8,35 +8,18 @@ use Prim.Native.Nat.{ℕ, suc, _+_, _-_, _≤_, _<_}
 use native.Mathlib.Numerals.{add-one}
 use native.Mathlib.Omega.{arith}
 use lib.Dec.{eqb}
-use lib.ListN.{length, getD, set, take, drop}
+use lib.ListN.{length, getD, set}
 use lib.Seq.{getD-set-same, getD-set-other}
 use borrow.Author.Tests.{eqb-true, eqb-false, eq-eqb, ne-eqb}
 use Rattle.record.specs.Frame.{header}
 use Rattle.record.specs.Record.{Rec}
 use Rattle.column.specs.Call.{Call, taking, closing, Leads, Run, no-call, one-call}
-use Rattle.bench_file.specs.Said.{Said, is-good, message-of}
+use Rattle.bench_file.specs.Scenario.{Scenario, is-good, message-of}
 use Rattle.bench.specs.Group.{bench-run, framed, heard-in, taking-first, calls-from}
-use Rattle.bench_file.specs.Places.{Stands}
-use Rattle.bench.specs.Running.{Hears}
-
--- places
-pub stands-inside : (file : List ℕ) (size at : ℕ) (x : Option (List ℕ)) → Stands file size at x → (at ≡ 0 → ⊥) → at + size ≤ length file
-unfolding Stands
-stands-inside file size at none s h = absurd (h s)
-stands-inside file size at (some x) s h = s .1
-
-pub stands-none : (file : List ℕ) (size at : ℕ) (x : Option (List ℕ)) → Stands file size at x → at ≡ 0 → x ≡ none
-unfolding Stands
-stands-none file size at none s h = refl
-stands-none file size at (some x) s h = absurd (s .0 h)
-
-pub stands-some : (file : List ℕ) (size at : ℕ) (x : Option (List ℕ)) → Stands file size at x → (at ≡ 0 → ⊥) → x ≡ some (take size (drop at file))
-unfolding Stands
-stands-some file size at none s h = absurd (h s)
-stands-some file size at (some x) s h = ap some (s .2)
+use Rattle.bench.specs.Steps.Running.{After-hearing}
 
 -- what is heard
-module _ (f : Said) (frames : ℕ → List ℕ) (m l k : ℕ) where
+module _ (f : Scenario) (frames : ℕ → List ℕ) (m l k : ℕ) where
   pub heard-own : k ≡ l → heard-in f frames m l k ≡ none
   unfolding heard-in
   heard-own e = rw (eq-eqb k l e) refl
@@ -56,8 +39,8 @@ module _ (f : Said) (frames : ℕ → List ℕ) (m l k : ℕ) where
   heard-message x h e g = rw (ne-eqb k l h, e, g) refl
 
 -- a slot, and the calls behind it
-pub hear-more : (k : ℕ) (o : Option (List ℕ)) (r q z : Rec) (cs : List Call) → Hears k o r q → Run q cs z → Run r (taking-first k o cs) z
-unfolding Hears taking-first Leads
+pub hear-more : (k : ℕ) (o : Option (List ℕ)) (r q z : Rec) (cs : List Call) → After-hearing k o r q → Run q cs z → Run r (taking-first k o cs) z
+unfolding After-hearing taking-first Leads
 hear-more k none r q z cs h run = subst (λ (x : Rec). Run x cs z) h run
 hear-more k (some bs) r q z cs h run = one-call r q z (taking k bs) cs h run
 
