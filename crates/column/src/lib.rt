@@ -123,7 +123,7 @@ pub fn result(column: Column) -> Holdings
     let held = found.values;
     let held_confidences = found.confidences;
     let many = who.n as usize;
-    let size = (who.n * who.w) as usize;
+    let size = record::vector_size(who.n, who.w);
     lent::copy(&held[..size], &mut values);
     lent::copy(&held_confidences[..many], &mut confidences);
     Holdings {
