@@ -5,7 +5,8 @@ use mathlib.Core.Bool.{Bool, true, false, cond}
 use denote.Ref.{now}
 use lib.ListN.{take}
 use borrow.Author.Needs.{needs}
-use Rattle.counting.specs.Steps.Table.{rows-in, value-in, next-best}
+use Rattle.grading.specs.Count.{next-best}
+use Rattle.counting.specs.Steps.Table.{rows-in, value-in}
 use Rattle.counting.proofs.Best.{next-same, next-blank, better-counted, next-by}
 use Rattle.counting.proofs.table.next_best.Statement.{statement}
 use Rattle.counting.proofs.table.next_best.Tie as tie
