@@ -81,28 +81,25 @@ copy-requires c κs =
     let p = passed (else-at size) in
     omega (arith, p, length-take-le (size .vector-size .result) (start (else-at size) .args .column .found .values) (omega (arith, p)))
 
+-- the values copied
+abbrev sized-at : tie.After-copy → tie.After-vector-size
+sized-at c = c .before .before .before
+
 array-share-prefix-held-confidences : tie.Need-array-share-prefix-held-confidences
-array-share-prefix-held-confidences c = omega (arith, passed (else-at (c .before .before .before .before)))
+array-share-prefix-held-confidences c = omega (arith, passed (else-at (sized-at (c .before))))
 
 slice-aggregate-copy-3 : tie.Need-slice-aggregate-copy-3
-slice-aggregate-copy-3 c = let p = passed (else-at (c .before .before .before .before .before)) in sym (length-take-le _ _ (omega (arith, p)))
+slice-aggregate-copy-3 c = let p = passed (else-at (sized-at (c .before .before))) in sym (length-take-le _ _ (omega (arith, p)))
 
 slice-aggregate-copy-4 : tie.Need-slice-aggregate-copy-4
 slice-aggregate-copy-4 c = search needs
 
 copy-requires-2 : tie.Need-copy-requires-2
 copy-requires-2 c κs =
-    let e = else-at (c .before .before .before .before .before .before) in
+    let e = else-at (sized-at (c .before .before .before)) in
     let a = start e .args .column in
     let p = passed e in
     omega (arith, p, length-take-le (a .who .n) (a .found .confidences) (omega (arith, p)))
-
--- the values copied
-abbrev first-copy : tie.After-copy2 → tie.After-copy
-first-copy c = c .before .before .before .before
-
-abbrev sized-at : tie.After-copy → tie.After-vector-size
-sized-at c = c .before .before .before
 
 stores-alike :
     {s : Settings} {hs gs : List Held} {vs us cs ks : List ℕ} → hs ≡ gs → vs ≡ us → cs ≡ ks → Stores-held s gs us ks → Stores-held s hs vs cs
@@ -114,7 +111,7 @@ returns-2 : tie.Need-returns-2
 unfolding view who-in who-as settings-of settings value-size padded
 returns-2 c =
     let second = c .before in
-    let first = first-copy second in
+    let first = second .before .before .before .before in
     let size = sized-at first .vector-size in
     let e = else-at (sized-at first) in
     let p = passed e in

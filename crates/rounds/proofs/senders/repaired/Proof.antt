@@ -91,8 +91,8 @@ repair-by-requires c κs = tt
 returns-2 : tie.Need-returns-2
 unfolding Slot-row coded-settings coded-vector settings operand-size check-count value-size operand-in
 returns-2 c =
-    let lent = c .before .before .before .before .before .before in
-    let z = sized (lent .before) in
+    let lent = c .before .before .before .before in
+    let z = sized (lent .before .before .before) in
     let k = start z in
     let a = k .args in
     let count = 2 * a .own .t * a .own .w in
