@@ -21,7 +21,7 @@ static void must(uint32_t answer) {
 }
 
 static void run_round(struct sajowemi_column *columns, int round) {
-    size_t size = 4 + (round == 0 ? 1 : 2 * BAD) * SIZE;
+    size_t size = sajowemi_column_frame_size(&columns[0]);
     uint8_t frames[GOOD][SAJOWEMI_LONGEST_FRAME];
     for (int k = 0; k < GOOD; k++)
         must(sajowemi_column_send(&columns[k], frames[k], sizeof frames[k]));

@@ -117,7 +117,10 @@ struct sajowemi_outcome sajowemi_open(uint32_t n, uint32_t t, uint32_t w, uint32
 /* Takes the frame that came in slot k, which is column k's. Refused 1 to 4 or 6 to 15. */
 struct sajowemi_outcome sajowemi_take(struct sajowemi_column column, uint32_t slot, const uint8_t *frame, size_t frame_length);
 
-/* Writes the round's frame in front of the buffer: 4 + w bytes in round 1, 4 + 2 t w after. Refused 1 to 4, 6, 7 or 16. */
+/* The bytes of the round's frame: 4 + w in round 1, 4 + 2 t w after. 0 where sending is refused for another reason than the buffer. */
+uint32_t sajowemi_frame_size(struct sajowemi_column column);
+
+/* Writes the round's frame in front of the buffer. Refused 1 to 4, 6, 7 or 16. */
 uint32_t sajowemi_send(struct sajowemi_column column, uint8_t *buffer, size_t buffer_length);
 
 /* Closes the round. Refused 1 to 4, 6 or 7. */
@@ -151,6 +154,10 @@ static inline uint32_t sajowemi_column_take(struct sajowemi_column *column, uint
     struct sajowemi_outcome outcome = sajowemi_take(*column, slot, frame, frame_length);
     *column = outcome.column;
     return outcome.answer;
+}
+
+static inline uint32_t sajowemi_column_frame_size(const struct sajowemi_column *column) {
+    return sajowemi_frame_size(*column);
 }
 
 static inline uint32_t sajowemi_column_send(const struct sajowemi_column *column, uint8_t *buffer, size_t buffer_length) {

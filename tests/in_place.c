@@ -109,6 +109,7 @@ static void sent(const struct sajowemi_column *column) {
 
     draw(in_place, sizeof in_place);
     memcpy(by_value, in_place, sizeof by_value);
+    is_answer(sajowemi_column_frame_size(&place.column), sajowemi_frame_size(*column));
     is_answer(sajowemi_column_send(&place.column, in_place, length), sajowemi_send(*column, by_value, length));
     assert(memcmp(in_place, by_value, sizeof in_place) == 0);
     is_record(&place, column);

@@ -70,6 +70,7 @@ static void send(struct settings s, struct sajowemi_column column, size_t length
     uint8_t *buffer = block(length);
     uint32_t answer = sajowemi_send(column, buffer, length);
 
+    assert(sajowemi_frame_size(column) == (column.round == 4 ? 0 : size));
     if (column.round == 4)
         assert(answer == SAJOWEMI_NO_OPEN_ROUND);
     else

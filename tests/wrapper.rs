@@ -1,6 +1,9 @@
-//! The safe crate: an exchange of four good columns, every refusal it can name, and the texts, which are those of the C header.
+//! The safe crate: an exchange of four good columns, every refusal it can name, the size of a frame against what `send` writes, and the
+//! texts, which are those of the C header.
 
-use sajowemi::{Column, LONGEST_FRAME, Level, Refusal, Repair, Settings, check_values, repair};
+use sajowemi::{
+    Column, LONGEST_FRAME, Level, Refusal, Repair, Settings, archive, check_values, repair,
+};
 
 const FOUR: Settings = Settings { n: 4, t: 1, w: 1 };
 const NUMBERS: [u32; 20] = [
@@ -124,6 +127,66 @@ fn refusals() {
     assert_eq!(column.result().err(), Some(Refusal::NotFinished));
 }
 
+/// How many bytes `send` writes of a record, told by two buffers that differ in every byte before.
+fn written(record: &archive::Column) -> usize {
+    let (mut zeros, mut ones) = ([0; 200], [255; 200]);
+    archive::send(record, &mut zeros);
+    archive::send(record, &mut ones);
+    zeros
+        .iter()
+        .zip(&ones)
+        .take_while(|(low, high)| low == high)
+        .count()
+}
+
+fn same_frame_size(record: &archive::Column) {
+    let archive::Identity {
+        n, t, w, number, ..
+    } = record.who;
+    assert_eq!(
+        Column::from_record(*record).frame_size(),
+        written(record),
+        "n {n}, t {t}, w {w}, number {number}, round {}",
+        record.round
+    );
+}
+
+/// The size of a frame is what `send` writes, of every settings and round, and of records with one number damaged or a blank value.
+fn frame_sizes() -> u32 {
+    let mut compared = 0;
+    let damages = [0, 1, 3, 9, 11, 33, 1 << 16, u32::MAX];
+    for (n, t, w) in (1..=32)
+        .flat_map(|n| (0..=(n - 1) / 3).map(move |t| (n, t)))
+        .flat_map(|(n, t)| (1..=8).map(move |w| (n, t, w)))
+    {
+        let mut column = Column::open(Settings { n, t, w }, n, 7, &[1; 8][..w as usize]).unwrap();
+        for round in 1..=4 {
+            let record = *column.record();
+            assert_eq!(written(&record) == 0, round == 4);
+            same_frame_size(&record);
+            for (field, damage) in (0..5).flat_map(|field| damages.map(|damage| (field, damage))) {
+                let mut damaged = record;
+                let who = &mut damaged.who;
+                *[
+                    &mut who.n,
+                    &mut who.t,
+                    &mut who.w,
+                    &mut who.number,
+                    &mut damaged.round,
+                ][field] = damage;
+                same_frame_size(&damaged);
+                compared += 1;
+            }
+            let mut blank = record;
+            blank.who.own = [0; archive::VALUE_ROOM];
+            same_frame_size(&blank);
+            compared += 2;
+            let _ = column.close();
+        }
+    }
+    compared
+}
+
 fn texts() {
     let header = std::fs::read_to_string("include/sajowemi.h").unwrap();
     for number in 0..=300 {
@@ -147,9 +210,10 @@ fn main() {
     level();
     code();
     refusals();
+    let compared = frame_sizes();
     texts();
     println!(
-        "wrapper: the safe crate runs an exchange, and has the {} refusals of the header",
+        "wrapper: the safe crate runs an exchange, has the {} refusals of the header, and tells the size of {compared} frames as sent",
         NUMBERS.len()
     );
 }

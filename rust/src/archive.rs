@@ -92,6 +92,7 @@ mod linked {
             frame: *const u8,
             frame_length: usize,
         ) -> Outcome;
+        pub fn sajowemi_frame_size(column: Column) -> u32;
         pub fn sajowemi_send(column: Column, buffer: *mut u8, buffer_length: usize) -> u32;
         pub fn sajowemi_close(column: Column) -> Outcome;
         pub fn sajowemi_result(column: Column) -> Holdings;
@@ -128,6 +129,10 @@ pub fn open(n: u32, t: u32, w: u32, number: u32, run: u16, own: &[u8]) -> Outcom
 
 pub fn take(column: &Column, slot: u32, frame: &[u8]) -> Outcome {
     unsafe { linked::sajowemi_take(*column, slot, frame.as_ptr(), frame.len()) }
+}
+
+pub fn frame_size(column: &Column) -> u32 {
+    unsafe { linked::sajowemi_frame_size(*column) }
 }
 
 pub fn send(column: &Column, buffer: &mut [u8]) -> u32 {

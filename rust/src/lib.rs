@@ -79,12 +79,15 @@ impl Column {
         Refusal::from_answer(outcome.answer)
     }
 
+    /// The bytes of the round's frame; 0 where sending is refused for another reason than the buffer.
+    pub fn frame_size(&self) -> usize {
+        archive::frame_size(&self.record) as usize
+    }
+
     /// Writes the round's frame in front of the buffer, and hands that part of it back.
     pub fn send<'a>(&self, buffer: &'a mut [u8]) -> Result<&'a [u8], Refusal> {
         Refusal::from_answer(archive::send(&self.record, buffer))?;
-        let archive::Identity { t, w, .. } = self.record.who;
-        let values = if self.record.round == 1 { 1 } else { 2 * t };
-        Ok(&buffer[..4 + (values * w) as usize])
+        Ok(&buffer[..self.frame_size()])
     }
 
     /// Closes the round.

@@ -103,6 +103,7 @@ one-outcome =
             either a (λ z. x .done z ∙ sym (y .done (sym same ∙ z)))
                 (λ z. x .refused z ∙ ap (λ (n : ℕ). after-refusal n c) same ∙ sym (y .refused (λ u. z (same ∙ u)))),
           ));
+      sizing = λ c a b x y. either (close-refusal (view c)) (λ z. x .done z ∙ sym (y .done z)) (λ z. x .refused z ∙ sym (y .refused z));
       sending = sends;
       closing = closes;
       asking =

@@ -8,6 +8,7 @@ use Rattle.code.specs.Settings.{settings}
 use Rattle.code.specs.Size.{most-columns, vector-room}
 use Rattle.code.specs.Entry.{in-front}
 use Rattle.counting.specs.Stored.{Stores-held}
+use Rattle.record.specs.Frame.{frame-size}
 use Rattle.record.specs.Refusal.{open-refusal, take-refusal, send-refusal, close-refusal, ask-refusal}
 use Rattle.column.specs.Call.{closing, Frame-of, Leads}
 use Rattle.record.specs.View.{settings-of, view}
@@ -25,6 +26,11 @@ pub record Take-says (c : Column) (slot : ℕ) (frame : List ℕ) (answer : ℕ)
   pub answered : answer ≡ take-refusal (view c) slot frame
   pub done : answer ≡ 0 → c-now ≡ with-slot c slot frame
   pub refused : (answer ≡ 0 → ⊥) → c-now ≡ after-refusal answer c
+
+-- `frame_size`: the length of the frame of the round, or 0 where the record or its round is refused, so that `send` writes none
+pub record Frame-size-says (c : Column) (answer : ℕ) : Type 0 where
+  pub done : close-refusal (view c) ≡ 0 → answer ≡ frame-size (settings-of (c .who)) (c .round)
+  pub refused : (close-refusal (view c) ≡ 0 → ⊥) → answer ≡ 0
 
 -- `send`: the refusal that applies and every byte kept, or 0 and the frame of the round in front, the rest kept
 pub record Send-says (c : Column) (buffer : List ℕ) (answer : ℕ) (buffer-now : List ℕ) : Type 0 where

@@ -10,7 +10,7 @@ use Rattle.record.specs.Refusal.{record-refusal, take-refusal}
 use Rattle.column.specs.Call.{after-take, Frame-of}
 use Rattle.record.specs.View.{settings-of, who-in, view}
 use Rattle.record.specs.Stored.{with-slot}
-use Rattle.column.specs.Entry.{Open-says, Take-says, Send-says, Close-says, Result-says}
+use Rattle.column.specs.Entry.{Open-says, Take-says, Frame-size-says, Send-says, Close-says, Result-says}
 use Rattle.record.specs.declared.Column.{Column}
 
 -- each call has one outcome: two that keep its promise are the same, in the answer, in the record and in every lent byte
@@ -20,6 +20,7 @@ pub record One-outcome : Type 0 where
       (a ≡ b) × (c ≡ d)
   pub taking :
       (c : Column) (k : ℕ) (bs : List ℕ) (a b : ℕ) (d e : Column) → Take-says c k bs a d → Take-says c k bs b e → (a ≡ b) × (d ≡ e)
+  pub sizing : (c : Column) (a b : ℕ) → Frame-size-says c a → Frame-size-says c b → a ≡ b
   pub sending :
       (c : Column) (buffer : List ℕ) (a b : ℕ) (xs ys : List ℕ) → Send-says c buffer a xs → Send-says c buffer b ys → (a ≡ b) × (xs ≡ ys)
   pub closing : (c : Column) (a b : ℕ) (d e : Column) → Close-says c a d → Close-says c b e → (a ≡ b) × (d ≡ e)

@@ -1,7 +1,7 @@
 // One column's part in the exchange: its record and the calls on it.
 mod sending;
 
-ghost use Rattle.column.specs.Entry.{Open-says, Take-says, Send-says, Close-says, Result-says};
+ghost use Rattle.column.specs.Entry.{Open-says, Take-says, Frame-size-says, Send-says, Close-says, Result-says};
 use code::sizes::MOST_COLUMNS;
 use code::sizes::VALUE_ROOM;
 use code::sizes::VECTOR_ROOM;
@@ -58,6 +58,17 @@ pub fn take(mut column: Column, slot: u32, frame: &[u8]) -> Outcome
     Outcome { answer, column }
 }
 
+// The length of the frame that `send` writes; 0 where it would write none, however long the buffer.
+pub fn frame_size(column: Column) -> u32
+    ensures { λ r. ⌜ Frame-size-says column r ⌝ }
+{
+    let who = column.who;
+    if refusals::close_refusal(who, column.round) != 0 {
+        return 0;
+    }
+    frames::frame_size(who, column.round) as u32
+}
+
 // Writes the frame of the round in front of a buffer: 0, or the refusal 1 to 4, 6, 7 or 16.
 pub fn send(column: Column, buffer: &mut [u8]) -> u32
     ensures { λ r. ⌜ Send-says column (now (buffer .entry)) r (now (buffer .exit)) ⌝ }
@@ -112,7 +123,7 @@ pub fn result(column: Column) -> Holdings
     let held = found.values;
     let held_confidences = found.confidences;
     let many = who.n as usize;
-    let size = (who.n * who.w) as usize;
+    let size = record::vector_size(who.n, who.w);
     lent::copy(&held[..size], &mut values);
     lent::copy(&held_confidences[..many], &mut confidences);
     Holdings {

@@ -9,6 +9,7 @@ ghost use Rattle.record.specs.View.{settings-of, who-in, found-in};
 use counting::lent;
 use record::Findings;
 use record::Identity;
+use rounds::closing;
 use rounds::senders;
 
 // The operand of the round: the own value, the checks of V, the checks of Y.
@@ -22,11 +23,6 @@ pub fn put_operand(who: Identity, round: u32, found: Findings, operand: &mut [u8
         lent::copy(&own[..size], operand);
         return;
     }
-    if round == 2 {
-        let heard = found.heard;
-        senders::put_checks(who.n, who.t, who.w, &heard, operand);
-        return;
-    }
-    let agreed = found.agreed;
-    senders::put_checks(who.n, who.t, who.w, &agreed, operand);
+    let vector = closing::checked(round, found);
+    senders::put_checks(who.n, who.t, who.w, &vector, operand);
 }

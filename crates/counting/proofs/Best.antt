@@ -16,40 +16,38 @@ use Rattle.code.proofs.Vectors.Planes.{same-equal}
 use Rattle.grading.specs.Value.{Value, Rows, blank, is-blank, bytes-before}
 use Rattle.grading.specs.Held.{Held, held-as}
 use Rattle.counting.specs.Stored.{Stores-value}
-use Rattle.grading.specs.Count.{found, better, most, agreed-least, sure-least, likely-least, agreed-at, held-of, held-at}
-use Rattle.counting.specs.Steps.Table.{better-by, next-best, Most-found, Rates}
+use Rattle.grading.specs.Count.{found, better-by, better, next-best, most, agreed-least, sure-least, likely-least, agreed-at, held-of, held-at}
+use Rattle.counting.specs.Steps.Table.{Counts, Most-found, Rates}
 use Rattle.counting.specs.declared.table.Counted.{Counted}
 use Rattle.grading.proofs.Order.{before-irrefl}
 use Rattle.counting.proofs.Padded.{stores-blank, stored-size}
 
 module _ (j : ℕ) (rows : Rows) where
   better-self : (v : Value) → better j rows v v ≡ false
-  unfolding better
-  better-self v = go (is-blank v)
+  unfolding better better-by
+  better-self v = go (is-blank v) refl
     where
-      go : (q : Bool) → (not q && (q || (ltb (found j v rows) (found j v rows) || (eqb (found j v rows) (found j v rows) && bytes-before v v)))) ≡ false
-      go true = refl
-      go false = rw (le-ltb (found j v rows) (found j v rows) (omega arith), before-irrefl v, eq-eqb (found j v rows) (found j v rows) refl)
+      go : (q : Bool) → is-blank v ≡ q → better j rows v v ≡ false
+      go true e = rw e
+      go false e = rw (e, le-ltb (found j v rows) (found j v rows) (omega arith), before-irrefl v, eq-eqb (found j v rows) (found j v rows) refl)
 
   pub next-same : (v b : Value) → same v b ≡ true → next-best j rows v b ≡ b
   unfolding next-best
   next-same v b e = rw (same-equal v b e, better-self b)
 
   pub next-blank : (v b : Value) → is-blank v ≡ true → next-best j rows v b ≡ b
-  unfolding next-best better
+  unfolding next-best better better-by
   next-blank v b e = rw e
 
   -- by counts: that of the best counts only where it is no blank
   pub better-counted :
       (v b : Value) (c d : ℕ) → c ≡ found j v rows → d ≡ cond (is-blank b) 0 (found j b rows) → better-by c d v b ≡ better j rows v b
   unfolding better-by better
-  better-counted v b c d e f = rw (e, f) (go (is-blank b))
+  better-counted v b c d e f = rw (e, f) (go (is-blank b) refl)
     where
-      go : (q : Bool) →
-          (not (is-blank v) && (q || (ltb (cond q 0 (found j b rows)) (found j v rows) || (eqb (cond q 0 (found j b rows)) (found j v rows) && bytes-before v b))))
-          ≡ (not (is-blank v) && (q || (ltb (found j b rows) (found j v rows) || (eqb (found j b rows) (found j v rows) && bytes-before v b))))
-      go true = refl
-      go false = refl
+      go : (q : Bool) → is-blank b ≡ q → better-by (found j v rows) (cond q 0 (found j b rows)) v b ≡ better-by (found j v rows) (found j b rows) v b
+      go true g = rw g
+      go false g = refl
 
   pub next-by : (v b : Value) (q : Bool) → q ≡ better j rows v b → next-best j rows v b ≡ cond q v b
   unfolding next-best
@@ -62,16 +60,20 @@ blank-of [] e = refl
 blank-of (x ∷ v) e = let both = and-split (eqb x 0) (is-blank v) e in ap₂ _∷_ (eqb-true x 0 (both .0)) (blank-of v (both .1))
 
 -- what a column's most often found value, and how often it is found, say
-module _ (n t w : ℕ) (rows : Rows) (j : ℕ) (c : Counted) (m : Most-found n w j rows c) (long : length (c .value) ≡ value-room) (few : w ≤ value-room) where
+module _ (n t w : ℕ) (rows : Rows) (j : ℕ) (c : Counted) (m : Most-found w j rows c) (long : length (c .value) ≡ value-room) (few : w ≤ value-room) where
   abbrev s : Settings
   s = settings n t w
 
   abbrev v : Value
   v = most s j rows
 
+  counts : Counts j w rows v c
+  unfolding most blank settings value-size
+  counts = m
+
   agreed-by : agreed-at s rows j ≡ cond (leb (n - t) (c .times)) v (blank s)
   unfolding agreed-least agreed-at blank settings value-size
-  agreed-by = rw (m t .times) (go (is-blank v) refl)
+  agreed-by = rw (counts .times) (go (is-blank v) refl)
     where
       either : (p q : Bool) → v ≡ replicate w 0 → cond p v (replicate w 0) ≡ cond q v (replicate w 0)
       either true true e = refl
@@ -83,11 +85,11 @@ module _ (n t w : ℕ) (rows : Rows) (j : ℕ) (c : Counted) (m : Most-found n w
           cond (leb (n - t) (found j v rows)) v (replicate w 0) ≡ cond (leb (n - t) (cond q 0 (found j v rows))) v (replicate w 0)
       go true e =
           either (leb (n - t) (found j v rows)) (leb (n - t) 0)
-          (blank-of v e ∙ ap (λ (k : ℕ). replicate k 0) (stored-size w v (c .value) long few (m t .value)))
+          (blank-of v e ∙ ap (λ (k : ℕ). replicate k 0) (stored-size w v (c .value) long few (counts .value)))
       go false e = refl
 
   pub agreed-often : n - t ≤ c .times → Stores-value w (agreed-at s rows j) (c .value)
-  agreed-often h = rw (agreed-by, le-leb (n - t) (c .times) h) (m t .value)
+  agreed-often h = rw (agreed-by, le-leb (n - t) (c .times) h) (counts .value)
 
   pub agreed-seldom : c .times < n - t → Stores-value w (agreed-at s rows j) (replicate value-room 0)
   unfolding blank settings value-size
@@ -95,7 +97,7 @@ module _ (n t w : ℕ) (rows : Rows) (j : ℕ) (c : Counted) (m : Most-found n w
 
   held-by : held-at s rows j ≡ held-of s v (c .times)
   unfolding held-at held-of sure-least likely-least settings
-  held-by = rw (m t .times) (go (is-blank v))
+  held-by = rw (counts .times) (go (is-blank v))
     where
       rated : ℕ → Held
       rated k = cond (leb (2 * t + 1) k) (held-as v 2) (cond (leb (t + 1) k) (held-as v 1) (held-as (blank s) 0))
@@ -106,11 +108,11 @@ module _ (n t w : ℕ) (rows : Rows) (j : ℕ) (c : Counted) (m : Most-found n w
 
   -- by whether the value that stands in front of the array is blank
   front : (q : Bool) → is-blank (take w (c .value)) ≡ q → is-blank v ≡ q
-  front q e = ap is-blank (sym (m t .value .reads)) ∙ e
+  front q e = ap is-blank (sym (counts .value .reads)) ∙ e
 
   rates-value : (k : ℕ) → held-at s rows j ≡ held-as v k → Rates w (held-at s rows j) (record { value = c .value; confidence = k })
   unfolding held-as
-  rates-value k e = rw e (record { value = m t .value; confidence = refl })
+  rates-value k e = rw e (record { value = counts .value; confidence = refl })
 
   rates-blank : held-at s rows j ≡ held-as (blank s) 0 → Rates w (held-at s rows j) (record { value = replicate value-room 0; confidence = 0 })
   unfolding held-as blank settings value-size

@@ -16,7 +16,7 @@ use Rattle.code.specs.Vector.{plane, same, cut}
 use Rattle.code.specs.Entry.{padded}
 use Rattle.code.proofs.Vectors.Cut.{plane-cut, plane-cut-length}
 use Rattle.grading.specs.Value.{Value, Rows, entries}
-use Rattle.grading.specs.Count.{found, better, most-from}
+use Rattle.grading.specs.Count.{found, next-best, most-from}
 use Rattle.counting.specs.Steps.Table.{Planes, byte-in, value-in, row-in, rows-in, Shaped, Row-put}
 use Rattle.grading.proofs.Value.{entries-length, entries-of, entries-alike}
 use Rattle.counting.proofs.Padded.{padded-at, padded-length}
@@ -52,11 +52,11 @@ module _ (n w : ℕ) (x : Planes) where
   pub most-on :
       (k : ℕ) (all : Rows) (b : Value) (i : ℕ) → k < n → i < n →
       most-from k all (drop i (rows-in n w x)) b
-      ≡ most-from k all (drop (i + 1) (rows-in n w x)) (cond (better k all (value-in w x i k) b) (value-in w x i k) b)
+      ≡ most-from k all (drop (i + 1) (rows-in n w x)) (next-best k all (value-in w x i k) b)
   unfolding most-from
   most-on k all b i h l =
       rw (rows-cons i l)
-      (ap (λ (v : Value). most-from k all (drop (i + 1) (rows-in n w x)) (cond (better k all v b) v b)) (value-at i k l h))
+      (ap (λ (v : Value). most-from k all (drop (i + 1) (rows-in n w x)) (next-best k all v b)) (value-at i k l h))
 
 -- one row of a plane put in
 module _ (x : Planes) (p i : ℕ) (row : List ℕ) (p-in : p < length x) (i-in : i < length (getD x p [])) where

@@ -6,8 +6,8 @@ ghost use Prim.Native.Nat.{_≤_, _<_};
 ghost use lib.ListN.{take};
 ghost use Rattle.code.specs.Size.{most-columns, value-room};
 ghost use Rattle.counting.specs.Stored.{Stores-value};
-ghost use Rattle.grading.specs.Count.{found};
-ghost use Rattle.counting.specs.Steps.Table.{value-in, rows-in, better-by, next-best, Counts, Most-found};
+ghost use Rattle.grading.specs.Count.{found, better-by, next-best};
+ghost use Rattle.counting.specs.Steps.Table.{value-in, rows-in, Counts, Most-found};
 use crate::values;
 use code::sizes::MOST_COLUMNS;
 use code::sizes::VALUE_ROOM;
@@ -104,7 +104,7 @@ fn next_best(table: &Table, n: usize, w: usize, k: usize, i: usize, best: Counte
 // The most often found value in column k, blank left out, the smallest bytes first on a tie; blank where there is no other.
 pub fn most_found(table: &Table, n: usize, w: usize, k: usize) -> Counted
     requires { ⌜ (n ≤ most-columns) × (w ≤ value-room) × (k < n) ⌝ }
-    ensures { λ r. ⌜ Most-found n w k (rows-in n w (now (table .entry))) r ⌝ }
+    ensures { λ r. ⌜ Most-found w k (rows-in n w (now (table .entry))) r ⌝ }
 {
     let mut best = Counted {
         value: [0u8; VALUE_ROOM],

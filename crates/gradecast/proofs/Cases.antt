@@ -12,7 +12,7 @@ use Rattle.code.specs.Settings.{settings, settings-refusal, value-size}
 use Rattle.code.specs.Vector.{same}
 use Rattle.grading.specs.Value.{Value, Vector, blank, is-blank, bytes-before, entries}
 use Rattle.grading.specs.Held.{held-as}
-use Rattle.grading.specs.Count.{agreed-least, sure-least, found, better, most-from, most, agreed-at, agreed-vector, held-of, held-at, held-list}
+use Rattle.grading.specs.Count.{agreed-least, sure-least, found, better-by, better, next-best, most-from, most, agreed-at, agreed-vector, held-of, held-at, held-list}
 use Rattle.record.specs.Record.{Rec, who-as, found-as, opened, next-round}
 use Rattle.record.specs.Refusal.{line, first-of, number-refusal, size-refusal, blank-refusal, round-refusal, open-refusal, record-refusal, close-refusal}
 use Rattle.rounds.specs.Exchange.{Table, heard-at, heard-vector, Closed}
@@ -65,7 +65,7 @@ own-table r v e f =
     record { many = sym e; own-row = rw f refl; others = λ k a b other. absurd (other (let one : k ≡ r .who .number = omega arith in one)) }
 
 pub alone-finishes : (run : ℕ) → Run (opened (settings 1 0 1) 1 run (7 ∷ [])) (closing ∷ closing ∷ closing ∷ []) (alone 3 run)
-unfolding alone Leads After-close Closed close-refusal record-refusal first-of line settings settings-refusal number-refusal blank-refusal round-refusal is-blank opened who-as found-as next-round heard-vector heard-at entries agreed-vector agreed-at held-list held-at held-of held-as most most-from better found same blank value-size bytes-before agreed-least sure-least
+unfolding alone Leads After-close Closed close-refusal record-refusal first-of line settings settings-refusal number-refusal blank-refusal round-refusal is-blank opened who-as found-as next-round heard-vector heard-at entries agreed-vector agreed-at held-list held-at held-of held-as most most-from next-best better better-by found same blank value-size bytes-before agreed-least sure-least
 alone-finishes run =
     one-call (alone 0 run) (alone 1 run) (alone 3 run) closing _ refl
     (one-call (alone 1 run) (alone 2 run) (alone 3 run) closing _ (((7 ∷ []) ∷ []) ∷ [], own-table (alone 1 run) ((7 ∷ []) ∷ []) refl refl, refl)

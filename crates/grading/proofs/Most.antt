@@ -14,7 +14,7 @@ use Rattle.code.specs.Vector.{same}
 use Rattle.code.proofs.Lists.Tests.{and-split}
 use Rattle.code.proofs.Vectors.Planes.{same-equal}
 use Rattle.grading.specs.Value.{Value, Rows, blank, is-blank, bytes-before}
-use Rattle.grading.specs.Count.{found, better, most-from, most}
+use Rattle.grading.specs.Count.{found, better-by, better, next-best, most-from, most}
 use Rattle.grading.proofs.Bool.{true-not-false}
 use Rattle.grading.proofs.Value.{differ-of-not-same}
 use Rattle.grading.proofs.Order.{before-irrefl, before-asym, not-before-trans}
@@ -38,17 +38,13 @@ leading-trans j all u v w a b =
     }
 
 module _ (j : ℕ) (all : Rows) where
-  -- the best after one more row
-  next : (v best : Value) → Value
-  next v b = cond (better j all v b) v b
-
   -- what goes before the best is no blank, and found more often, or as often with the smaller bytes
   better-filled : (v b : Value) → better j all v b ≡ true → is-blank v ≡ false
-  unfolding better
+  unfolding better better-by
   better-filled v b e = not-true (is-blank v) (and-split (not (is-blank v)) _ e .0)
 
   better-leads : (v b : Value) → is-blank b ≡ false → better j all v b ≡ true → Leading j all b v
-  unfolding better
+  unfolding better better-by
   better-leads v b f e =
       go (ltb (found j b all) (found j v all)) (eqb (found j b all) (found j v all)) refl refl (rw f at (and-split (not (is-blank v)) _ e .1))
     where
@@ -61,16 +57,16 @@ module _ (j : ℕ) (all : Rows) where
           record { filled = better-filled v b e; often = omega (arith, eqb-true (found j b all) (found j v all) h); smallest = λ s. before-asym v b i }
       go false false g h i = true-not-false (sym i)
 
-  next-keeps : (v b : Value) → is-blank b ≡ false → Leading j all b (next v b)
-  unfolding next
+  next-keeps : (v b : Value) → is-blank b ≡ false → Leading j all b (next-best j all v b)
+  unfolding next-best
   next-keeps v b e = go (better j all v b) refl
     where
       go : (q : Bool) → better j all v b ≡ q → Leading j all b (cond q v b)
       go true f = better-leads v b e f
       go false f = leading-self j all b e
 
-  next-takes : (v b : Value) → is-blank v ≡ false → Leading j all v (next v b)
-  unfolding next better
+  next-takes : (v b : Value) → is-blank v ≡ false → Leading j all v (next-best j all v b)
+  unfolding next-best better better-by
   next-takes v b e =
       rw e
       (go (is-blank b) (ltb (found j b all) (found j v all)) (eqb (found j b all) (found j v all)) (bytes-before v b) refl refl refl refl)
@@ -89,27 +85,27 @@ module _ (j : ℕ) (all : Rows) where
           }
 
   most-keeps : (rows : Rows) (v b : Value) → Leading j all v b → Leading j all v (most-from j all rows b)
-  unfolding most-from next
+  unfolding most-from
   most-keeps [] v b a = a
   most-keeps (row ∷ rows) v b a =
-      most-keeps rows v (next (getD row j []) b) (leading-trans j all v b _ a (next-keeps (getD row j []) b (a .filled)))
+      most-keeps rows v (next-best j all (getD row j []) b) (leading-trans j all v b _ a (next-keeps (getD row j []) b (a .filled)))
 
   most-takes : (rows : Rows) (v b : Value) → is-blank v ≡ false → 1 ≤ found j v rows → Leading j all v (most-from j all rows b)
-  unfolding most-from next found
+  unfolding most-from found
   most-takes [] v b e h = absurd (omega arith)
-  most-takes (row ∷ rows) v b e h = go (same (getD row j []) v) refl h (λ l. most-takes rows v (next (getD row j []) b) e l)
+  most-takes (row ∷ rows) v b e h = go (same (getD row j []) v) refl h (λ l. most-takes rows v (next-best j all (getD row j []) b) e l)
     where
       out : Value
-      out = most-from j all rows (next (getD row j []) b)
+      out = most-from j all rows (next-best j all (getD row j []) b)
 
       go : (q : Bool) → same (getD row j []) v ≡ q → 1 ≤ cond q 1 0 + found j v rows → (1 ≤ found j v rows → Leading j all v out) → Leading j all v out
       go true f l c =
           let d = same-equal _ _ f in
-          most-keeps rows v _ (subst (λ (u : Value). Leading j all u (next (getD row j []) b)) d (next-takes (getD row j []) b (rw d e)))
+          most-keeps rows v _ (subst (λ (u : Value). Leading j all u (next-best j all (getD row j []) b)) d (next-takes (getD row j []) b (rw d e)))
       go false f l c = c (omega arith)
 
   most-from-is : (P : Value → Type 0) (rows : Rows) (b : Value) → P b → ((k : ℕ) → k < length rows → P (getD (getD rows k []) j [])) → P (most-from j all rows b)
-  unfolding most-from
+  unfolding most-from next-best
   most-from-is P [] b p h = p
   most-from-is P (row ∷ rows) b p h = most-from-is P rows _ (pick (better j all (getD row j []) b) (h 0 (omega arith))) (λ k l. h (suc k) (omega arith))
     where

@@ -14,17 +14,23 @@ unfoldable pub found : (j : ℕ) → Value → Rows → ℕ
 found j v [] = 0
 found j v (row ∷ rows) = cond (same (getD row j []) v) 1 0 + found j v rows
 
--- whether a value goes before the best so far: it is no blank, and there is none so far, or it is found more often, or as often with
--- the smaller bytes
+-- whether a value goes before the best so far, by how often each is found: it is no blank, and there is none so far, or it is found more
+-- often, or as often with the smaller bytes
+unfoldable pub better-by : (times best-times : ℕ) → (v best : Value) → Bool
+better-by c d v b = not (is-blank v) && (is-blank b || (ltb d c || (eqb d c && bytes-before v b)))
+
+-- whether it does in a column of a table
 unfoldable pub better : (j : ℕ) → Rows → (v best : Value) → Bool
-better j rows v b =
-    not (is-blank v)
-    && (is-blank b || (ltb (found j b rows) (found j v rows) || (eqb (found j b rows) (found j v rows) && bytes-before v b)))
+better j rows v b = better-by (found j v rows) (found j b rows) v b
+
+-- the best after one more value
+unfoldable pub next-best : (j : ℕ) → Rows → (v best : Value) → Value
+next-best j rows v b = cond (better j rows v b) v b
 
 -- the best of the values in a column of a table, from the best so far on
 unfoldable pub most-from : (j : ℕ) → (all rest : Rows) → (best : Value) → Value
 most-from j all [] b = b
-most-from j all (row ∷ rows) b = most-from j all rows (cond (better j all (getD row j []) b) (getD row j []) b)
+most-from j all (row ∷ rows) b = most-from j all rows (next-best j all (getD row j []) b)
 
 -- m: the most often found value in a column, blank left out, the smallest bytes first on a tie; blank where there is no other
 unfoldable pub most : Settings → (j : ℕ) → Rows → Value

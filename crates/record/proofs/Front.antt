@@ -76,12 +76,12 @@ checks-put-of n t w r vector out now fine long room says = subst (λ (k : ℕ). 
     number = rw (fine, eq-eqb (length vector) (n * w) long, le-ltb (length out) (2 * t * w) room) refl
 
 pub checks-written :
-    (n t w r : ℕ) (values out now : List ℕ) → settings-refusal (settings n t w) ≡ 0 → length (take (n * w) values) ≡ n * w →
-    length out ≡ check-count (settings n t w) * value-size (settings n t w) → Checks-says n t w (take (n * w) values) r out now →
+    (n t w size r : ℕ) (values out now : List ℕ) → settings-refusal (settings n t w) ≡ 0 → size ≡ n * w → length (take size values) ≡ size →
+    length out ≡ check-count (settings n t w) * value-size (settings n t w) → Checks-says n t w (take size values) r out now →
     has-checks (settings n t w) (values-in (settings n t w) n values) (checks-in (settings n t w) now) ≡ true
 unfolding Checks-put checks-in values-in in-front settings check-count value-size
-checks-written n t w r values out now fine long room says =
-    let put = checks-put-of n t w r (take (n * w) values) out now fine long (omega arith) says in
+checks-written n t w size r values out now fine many long room says =
+    let put = checks-put-of n t w r (take (n * w) values) out now fine (rw many at long) (omega arith) (rw many at says) in
     let checked = checked-of (settings n t w) _ (put .0) (put .1) in
     let same : cut (2 * t) w now ≡ put .0 =
     ap (cut (2 * t) w) (put .2) ∙ ap (λ (k : ℕ). cut k w (glued (put .0) ++ drop (length (glued (put .0))) out)) (sym (checked .many))

@@ -72,6 +72,9 @@ first-of-group (x ∷ xs) ys = go (eqb x 0) refl (first-of-group xs ys)
     go true e f = f
     go false e f = rw e refl
 
+pub first-of-known : {g : ℕ} (xs ys : List ℕ) → g ≡ first-of xs → first-of (xs ++ ys) ≡ first-of (g ∷ ys)
+first-of-known xs ys e = sym (first-of-group xs ys) ∙ ap (λ (k : ℕ). first-of (k ∷ ys)) (sym e)
+
 first-of-low : (a : ℕ) (rest : List ℕ) (top : ℕ) → a ≤ top → first-of rest ≤ top → first-of (a ∷ rest) ≤ top
 unfolding first-of
 first-of-low a rest top h l = go (eqb a 0)

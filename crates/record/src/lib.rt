@@ -4,6 +4,8 @@ pub mod refusals;
 pub mod slots;
 
 ghost use mathlib.Core.Path.{_≡_};
+ghost use Prim.Native.Nat.{_*_, _≤_};
+ghost use Rattle.code.specs.Size.{most-columns, value-room, vector-room};
 ghost use Rattle.record.specs.Record.{raised as «raised-of»};
 ghost use Rattle.record.specs.Stored.{no-column};
 use code::sizes::CHECKS_ROOM;
@@ -95,6 +97,14 @@ pub fn empty() -> Column
         round: 0,
         refused: 0,
     }
+}
+
+// The bytes of a value for each column.
+pub fn vector_size(n: u32, w: u32) -> usize
+    requires { ⌜ (n ≤ most-columns) × (w ≤ value-room) ⌝ }
+    ensures { λ r. ⌜ (r ≡ n * w) × (r ≤ vector-room) ⌝ }
+{
+    (n * w) as usize
 }
 
 // One more in a count that stays at its top.

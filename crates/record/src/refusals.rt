@@ -1,7 +1,7 @@
 // Where a call is turned down before its frame or buffer is looked at: the numbers 1 to 8.
 ghost use mathlib.Core.Path.{_≡_};
 ghost use mathlib.Core.List.{[], _∷_};
-ghost use Rattle.code.specs.Settings.{settings};
+ghost use Rattle.code.specs.Settings.{settings, settings-refusal};
 ghost use Rattle.record.specs.Refusal.{first-of, number-refusal, round-refusal, slot-refusal, unfinished-refusal, open-refusal, record-refusal};
 ghost use Rattle.record.specs.View.{who-in};
 use crate::Identity;
@@ -20,17 +20,24 @@ fn number_refusal(n: u32, number: u32) -> u32
     0
 }
 
-// Opening: 1 to 6.
-pub fn open_refusal(n: u32, t: u32, w: u32, number: u32, own: &[u8]) -> u32
-    ensures { λ r. ⌜ r ≡ open-refusal (settings n t w) number (now (own .entry)) ⌝ }
+// The group and the own number in it: 1 to 4.
+fn group_refusal(n: u32, t: u32, w: u32, number: u32) -> u32
+    ensures { λ r. ⌜ r ≡ first-of (settings-refusal (settings n t w) ∷ number-refusal n number ∷ []) ⌝ }
 {
     let of_settings = code::settings::settings_refusal(n, t, w);
     if of_settings != 0 {
         return of_settings;
     }
-    let of_number = number_refusal(n, number);
-    if of_number != 0 {
-        return of_number;
+    number_refusal(n, number)
+}
+
+// Opening: 1 to 6.
+pub fn open_refusal(n: u32, t: u32, w: u32, number: u32, own: &[u8]) -> u32
+    ensures { λ r. ⌜ r ≡ open-refusal (settings n t w) number (now (own .entry)) ⌝ }
+{
+    let of_group = group_refusal(n, t, w, number);
+    if of_group != 0 {
+        return of_group;
     }
     if own.len() != w as usize {
         return 5;
@@ -45,13 +52,9 @@ pub fn open_refusal(n: u32, t: u32, w: u32, number: u32, own: &[u8]) -> u32
 fn record_refusal(who: Identity) -> u32
     ensures { λ r. ⌜ r ≡ record-refusal (who-in who) ⌝ }
 {
-    let of_settings = code::settings::settings_refusal(who.n, who.t, who.w);
-    if of_settings != 0 {
-        return of_settings;
-    }
-    let of_number = number_refusal(who.n, who.number);
-    if of_number != 0 {
-        return of_number;
+    let of_group = group_refusal(who.n, who.t, who.w, who.number);
+    if of_group != 0 {
+        return of_group;
     }
     let own = who.own;
     let size = who.w as usize;

@@ -129,7 +129,8 @@ module _ (c : Column) (i : Inside (c .who)) where
       let round = add-one (c .round) in
       cc
 
-  finds-of :
+  -- what is found, by how it reads
+  pub finds-of :
       (m : ℕ) (f : Findings) (q : Found) → c .round ≡ m → found-in (settings-of (c .who)) (m + 1) f ≡ q → Closed m (view c) (next-round (view c) q) →
       f ≡ found-now m (c .found) q → Finds c f
   unfolding next-round

@@ -30,7 +30,6 @@ use Rattle.counting.proofs.Placed.{cut-at}
 use Rattle.record.specs.Frame.{checks-in}
 use Rattle.rounds.specs.Exchange.{Row}
 use Rattle.rounds.proofs.Rows.{Sized, checked-vector}
-use Rattle.record.proofs.Size.{checks-fit}
 use Rattle.record.proofs.Front.{cut-glued, cut-front}
 
 -- an array of bytes in a struct holds bytes
@@ -38,14 +37,10 @@ pub bytes-typed : (xs : List ℕ) → WT (arrayVal (map (vint w8) (map (λ x. x)
 bytes-typed [] t = tt
 bytes-typed (x ∷ xs) t = (t .0 .fits, bytes-typed xs (t .1))
 
--- a vector and its check values have room in their arrays
+-- a vector has room in its array
 pub vector-fits : (n t w : ℕ) → settings-refusal (settings n t w) ≡ 0 → n * w ≤ 256
 unfolding settings
 vector-fits n t w e = let few = sizes (settings n t w) e in values-fit n w (few .few-columns) (few .few-bytes)
-
-pub operand-fits : (n t w : ℕ) → settings-refusal (settings n t w) ≡ 0 → 2 * t * w ≤ 160
-unfolding settings
-operand-fits n t w e = let few = sizes (settings n t w) e in checks-fit t w (omega (arith, few)) (few .few-bytes)
 
 -- zeros are blanks
 drop-replicate : {A : Type 0} (m n : ℕ) (x : A) → drop m (replicate (m + n) x) ≡ replicate n x
@@ -114,21 +109,22 @@ received-checks s x h b =
     and-both (eq-eqb _ _ (cut-length (check-count s) (value-size s) x)) (values-back (value-size s) _ (cut-values (check-count s) (value-size s) x h b))
 
 -- the row of a frame, whose checks are x
-module _ (n t w : ℕ) (vector own x row : List ℕ) (fine : settings-refusal (settings n t w) ≡ 0) (long : n * w ≤ length vector) (own-long : 2 * t * w ≤ length own)
+module _ (n t w size count : ℕ) (vector own x row : List ℕ) (fine : settings-refusal (settings n t w) ≡ 0) (many : size ≡ n * w) (few : count ≡ 2 * t * w)
+    (long : size ≤ length vector) (own-long : count ≤ length own)
     (x-long : length x ≡ 2 * t * w) (x-bytes : Bytes x)
     (checked : has-checks (settings n t w) (values-in (settings n t w) n vector) (checks-in (settings n t w) (take (2 * t * w) own)) ≡ true)
-    (row-long : n * w ≤ length row) (empty : values-in (settings n t w) n row ≡ blanks (settings n t w)) where
+    (row-long : size ≤ length row) (empty : values-in (settings n t w) n row ≡ blanks (settings n t w)) where
   pub repaired-row :
-      (r : ℕ) (z : List ℕ) → Repair-by-says n t w (take (n * w) vector) (take (2 * t * w) own) x r (take (n * w) row) z →
-      Row (settings n t w) (values-in (settings n t w) n vector) (some x) (values-in (settings n t w) n (z ++ drop (n * w) row))
+      (r : ℕ) (z : List ℕ) → Repair-by-says n t w (take size vector) (take count own) x r (take size row) z →
+      Row (settings n t w) (values-in (settings n t w) n vector) (some x) (values-in (settings n t w) n (z ++ drop size row))
   unfolding Repair-by-says Repair-by-as By-own-checks values-in checks-in settings check-count value-size
-  repaired-row r z says = done-row s (values-in s n vector) x row empty r z (by-own-checks s _ _ _ r _ z vector-fine checked checks-fine done)
+  repaired-row r z says = rw many (done-row s (values-in s n vector) x row empty r z (by-own-checks s _ _ _ r _ z vector-fine checked checks-fine done))
     where
       s : Settings
       s = settings n t w
 
       vector-fine : is-vector s (values-in s n vector) ≡ true
-      vector-fine = checked-vector s _ _ checked (cut-sized s vector long)
+      vector-fine = checked-vector s _ _ checked (cut-sized s vector (omega arith))
 
       checks-fine : are-checks s (checks-in s x) ≡ true
       checks-fine = received-checks s x (omega (arith, x-long)) x-bytes
@@ -136,8 +132,8 @@ module _ (n t w : ℕ) (vector own x row : List ℕ) (fine : settings-refusal (s
       taken : Repair-by-as 0 s (take (n * w) vector) (take (2 * t * w) own) x r (take (n * w) row) z
       taken =
           subst (λ (k : ℕ). Repair-by-as k s (take (n * w) vector) (take (2 * t * w) own) x r (take (n * w) row) z)
-          (fine-by s _ _ _ _ fine (length-take-le (n * w) vector long) (length-take-le (2 * t * w) own own-long) x-long
-          (let l = length-take-le (n * w) row row-long in omega arith)) says
+          (fine-by s _ _ _ _ fine (length-take-le (n * w) vector (omega arith)) (length-take-le (2 * t * w) own (omega arith)) x-long
+          (let l = length-take-le (n * w) row (omega arith) in omega arith)) (rw (many, few) at says)
 
       done : Done-by s (values-in s n vector) (checks-in s (take (2 * t * w) own)) (checks-in s x) r (take (n * w) row) z
       done = subst (λ (vs : List (List ℕ)). Done-by s vs (checks-in s (take (2 * t * w) own)) (checks-in s x) r (take (n * w) row) z) (cut-front n w vector) taken

@@ -64,7 +64,7 @@ fn heard(who: Identity, slots: [Slot; MOST_COLUMNS]) -> [u8; VECTOR_ROOM]
 }
 
 // The vector whose checks go round: V in round two, Y in round three.
-fn checked(round: u32, found: Findings) -> [u8; VECTOR_ROOM]
+pub fn checked(round: u32, found: Findings) -> [u8; VECTOR_ROOM]
     ensures { λ r. ⌜ r ≡ checked-in round found ⌝ }
 {
     if round == 2 {

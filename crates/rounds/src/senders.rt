@@ -17,13 +17,14 @@ use counting::filling;
 use counting::table::Table;
 use record::HEADER;
 use record::Slot;
+use record::frames;
 
 // The check values of a vector that stands in the front of an array.
 pub fn put_checks(n: u32, t: u32, w: u32, values: &[u8], operand: &mut [u8])
     requires { ⌜ (settings-refusal (settings n t w) ≡ 0) × (length (now values) ≡ vector-room) × (length (now operand) ≡ check-count (settings n t w) * value-size (settings n t w)) ⌝ }
     ensures { λ _. ⌜ has-checks (settings n t w) (values-in (settings n t w) n (now (values .entry))) (checks-in (settings n t w) (now (operand .exit))) ≡ true ⌝ }
 {
-    let end = (n * w) as usize;
+    let end = record::vector_size(n, w);
     code::check_values(n, t, w, &values[..end], operand);
 }
 
@@ -41,7 +42,7 @@ pub fn with_checks(n: u32, t: u32, w: u32, vector: [u8; VECTOR_ROOM]) -> Coded
     ensures { λ r. ⌜ Coded-right r × (coded-settings r ≡ settings n t w) × (coded-vector r ≡ values-in (settings n t w) n vector) ⌝ }
 {
     let mut checks = [0u8; CHECKS_ROOM];
-    let end = (2 * t * w) as usize;
+    let end = frames::operand_size(t, w, 2);
     put_checks(n, t, w, &vector, &mut checks[..end]);
     Coded {
         n,
@@ -61,8 +62,8 @@ fn repaired(own: Coded, slot: Slot) -> [u8; VECTOR_ROOM]
     if slot.taken == 0 {
         return row;
     }
-    let size = (own.n * own.w) as usize;
-    let count = (2 * own.t * own.w) as usize;
+    let size = record::vector_size(own.n, own.w);
+    let count = frames::operand_size(own.t, own.w, 2);
     let end = HEADER + count;
     let vector = own.vector;
     let own_checks = own.checks;

@@ -2,7 +2,7 @@
 // passes as pointer and length.
 ghost use Rattle.code.specs.Entry.{Checks-says};
 ghost use Rattle.repair.specs.Entry.{Repair-says};
-ghost use Rattle.column.specs.Entry.{Open-says, Take-says, Send-says, Close-says, Result-says};
+ghost use Rattle.column.specs.Entry.{Open-says, Take-says, Frame-size-says, Send-says, Close-says, Result-says};
 ghost use Rattle.level.specs.Entry.{Level-says};
 use level::answer::Level;
 use record::Column;
@@ -28,6 +28,13 @@ pub extern "C" fn sajowemi_take(column: Column, slot: u32, frame: &[u8]) -> Outc
     ensures { λ r. ⌜ Take-says column slot (now (frame .entry)) (r .answer) (r .column) ⌝ }
 {
     column::take(column, slot, frame)
+}
+
+#[no_mangle]
+pub extern "C" fn sajowemi_frame_size(column: Column) -> u32
+    ensures { λ r. ⌜ Frame-size-says column r ⌝ }
+{
+    column::frame_size(column)
 }
 
 #[no_mangle]

@@ -1,15 +1,15 @@
 -- `result` meets its contract: refused, it answers zeros; in round four, the values and confidences of the record. Assumes nothing.
-use mathlib.Core.Path.{_≡_, refl, sym, _∙_, subst}
+use mathlib.Core.Path.{_≡_, refl, sym, _∙_, ap, subst}
 use mathlib.Core.List.{List}
-use Prim.Native.Nat.{ℕ, _*_, _≤_}
+use Prim.Native.Nat.{ℕ, _≤_}
 use native.Mathlib.Omega.{arith}
-use lib.ListN.{length}
+use lib.ListN.{length, take}
 use lib.Seq.{length-take-le}
 use borrow.Author.Needs.{needs}
 use Rattle.code.specs.Settings.{Settings, settings, value-size}
-use Rattle.code.specs.Size.{most-columns, vector-room}
+use Rattle.code.specs.Size.{most-columns, value-room, vector-room}
 use Rattle.code.specs.Entry.{padded}
-use Rattle.code.proofs.ValidSettings.{values-fit, sizes}
+use Rattle.code.proofs.ValidSettings.{sizes}
 use Rattle.grading.specs.Held.{Held}
 use Rattle.counting.specs.Stored.{Stores-held}
 use Rattle.record.specs.Record.{who-as}
@@ -39,7 +39,7 @@ start c = c .before .before .before
 record Passed (c : tie.Else1) : Type 0 where
   asked : ask-refusal (view (start c .args .column)) ≡ 0
   few : start c .args .column .who .n ≤ most-columns
-  room : start c .args .column .who .n * start c .args .column .who .w ≤ vector-room
+  short : start c .args .column .who .w ≤ value-room
   values-long : length (start c .args .column .found .values) ≡ vector-room
   confidences-long : length (start c .args .column .found .confidences) ≡ most-columns
 
@@ -51,7 +51,7 @@ passed c =
     record {
       asked = zero;
       few = few .few-columns;
-      room = values-fit _ _ (few .few-columns) (few .few-bytes);
+      short = few .few-bytes;
       values-long = search needs;
       confidences-long = search needs;
     }
@@ -59,15 +59,12 @@ passed c =
 cast-many : tie.Need-cast-many
 cast-many c = search needs
 
+vector-size-requires : tie.Need-vector-size-requires
+vector-size-requires c κs = let p = passed (c .before .before .before .before) in (p .few, p .short)
+
 -- the record's arrays in hand, and how many of their bytes there are
-abbrev else-at : tie.After-struct-known2 → tie.Else1
+abbrev else-at : tie.After-vector-size → tie.Else1
 else-at c = c .before .before .before .before .before
-
-mul-size : tie.Need-mul-size
-mul-size c = omega (arith, passed (else-at c))
-
-cast-size : tie.Need-cast-size
-cast-size c = omega (arith, passed (else-at c))
 
 array-share-prefix-held : tie.Need-array-share-prefix-held
 array-share-prefix-held c = omega (arith, passed (else-at c))
@@ -80,33 +77,29 @@ slice-aggregate-copy-2 c = search needs
 
 copy-requires : tie.Need-copy-requires
 copy-requires c κs =
-    let e = else-at (c .before .before) in
-    let a = start e .args .column in
-    let p = passed e in
-    omega (arith, p, length-take-le (a .who .n * a .who .w) (a .found .values) (omega (arith, p)))
+    let size = c .before .before in
+    let p = passed (else-at size) in
+    omega (arith, p, length-take-le (size .vector-size .result) (start (else-at size) .args .column .found .values) (omega (arith, p)))
+
+-- the values copied
+abbrev sized-at : tie.After-copy → tie.After-vector-size
+sized-at c = c .before .before .before
 
 array-share-prefix-held-confidences : tie.Need-array-share-prefix-held-confidences
-array-share-prefix-held-confidences c = omega (arith, passed (else-at (c .before .before .before .before)))
+array-share-prefix-held-confidences c = omega (arith, passed (else-at (sized-at (c .before))))
 
 slice-aggregate-copy-3 : tie.Need-slice-aggregate-copy-3
-slice-aggregate-copy-3 c = let p = passed (else-at (c .before .before .before .before .before)) in sym (length-take-le _ _ (omega (arith, p)))
+slice-aggregate-copy-3 c = let p = passed (else-at (sized-at (c .before .before))) in sym (length-take-le _ _ (omega (arith, p)))
 
 slice-aggregate-copy-4 : tie.Need-slice-aggregate-copy-4
 slice-aggregate-copy-4 c = search needs
 
 copy-requires-2 : tie.Need-copy-requires-2
 copy-requires-2 c κs =
-    let e = else-at (c .before .before .before .before .before .before) in
+    let e = else-at (sized-at (c .before .before .before)) in
     let a = start e .args .column in
     let p = passed e in
     omega (arith, p, length-take-le (a .who .n) (a .found .confidences) (omega (arith, p)))
-
--- the values copied
-abbrev first-copy : tie.After-copy2 → tie.After-copy
-first-copy c = c .before .before .before .before
-
-abbrev counted-at : tie.After-copy → tie.After-struct-known2
-counted-at c = c .before .before .before
 
 stores-alike :
     {s : Settings} {hs gs : List Held} {vs us cs ks : List ℕ} → hs ≡ gs → vs ≡ us → cs ≡ ks → Stores-held s gs us ks → Stores-held s hs vs cs
@@ -118,17 +111,18 @@ returns-2 : tie.Need-returns-2
 unfolding view who-in who-as settings-of settings value-size padded
 returns-2 c =
     let second = c .before in
-    let first = first-copy second in
-    let e = else-at (counted-at first) in
+    let first = second .before .before .before .before in
+    let size = sized-at first .vector-size in
+    let e = else-at (sized-at first) in
     let p = passed e in
     let a = start e .args .column in
-    let stored = result-stores (settings-of (a .who)) (a .found .values) (a .found .confidences) (omega (arith, p)) (omega (arith, p)) in
+    let stored = result-stores (settings-of (a .who)) (a .found .values) (a .found .confidences) (omega (arith, p, size .ensures)) (omega (arith, p)) in
     let held = found-held (settings-of (a .who)) (a .round) (a .found) (omega (arith, ask-round (view a) (p .asked))) in
     record {
       answered = e .if1 .left ∙ sym (p .asked);
       done =
           λ z.
-          stores-alike held (first .copy .ensures) (second .copy2 .ensures) stored;
+          stores-alike held (first .copy .ensures ∙ ap (λ (k : ℕ). padded vector-room (take k (a .found .values))) (size .ensures .0)) (second .copy2 .ensures) stored;
       refused = λ z. absurd (z (e .if1 .left));
     }
 
@@ -139,8 +133,7 @@ result-spec =
     ask-refusal-requires
     returns
     cast-many
-    mul-size
-    cast-size
+    vector-size-requires
     array-share-prefix-held
     slice-aggregate-copy
     slice-aggregate-copy-2

@@ -38,10 +38,9 @@ slot-refusal-requires c κs = search needs
 -- what the lines before the frame's own give
 early-lines :
     (c : tie.After-slot-refusal) →
-    c .slot-refusal .result
-    ≡ first-of
-    (record-refusal (who-in (c .before .before .before .args .t1 .who)) ∷ round-refusal (c .before .before .before .args .t1 .round)
-    ∷ slot-refusal (c .before .before .before .args .t1 .who .n) (c .before .before .before .args .t1 .who .number) (c .before .before .before .args .slot) ∷ [])
+    (let a = c .before .before .before .args in
+    let i = a .t1 .who in
+    c .slot-refusal .result ≡ first-of (record-refusal (who-in i) ∷ round-refusal (a .t1 .round) ∷ slot-refusal (i .n) (i .number) (a .slot) ∷ []))
 early-lines c = c .slot-refusal .ensures
 
 returns-3 : tie.Need-returns-3

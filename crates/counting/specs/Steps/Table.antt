@@ -1,18 +1,17 @@
 -- Tables of rows as arrays, plane by plane: byte p of the value in row i, column k stands at p, i, k. Assumes nothing: these are
 -- definitions.
 use mathlib.Core.Path.{_≡_}
-use mathlib.Core.Bool.{Bool, _&&_, _||_, not, cond}
+use mathlib.Core.Bool.{cond}
 use mathlib.Core.List.{List, []}
 use Prim.Native.Nat.{ℕ, _≤_, _<_}
-use lib.Dec.{ltb, eqb}
 use lib.ListN.{length, getD}
 use Rattle.code.specs.Settings.{settings}
 use Rattle.code.specs.Size.{most-columns, value-room}
 use Rattle.code.specs.Vector.{plane, cut}
 use Rattle.code.specs.Entry.{padded}
-use Rattle.grading.specs.Value.{Value, Vector, Rows, is-blank, bytes-before, entries}
+use Rattle.grading.specs.Value.{Value, Vector, Rows, is-blank, entries}
 use Rattle.counting.specs.Stored.{Stores-value}
-use Rattle.grading.specs.Count.{found, better, most}
+use Rattle.grading.specs.Count.{found, most}
 use Rattle.grading.specs.Held.{Held}
 use Rattle.counting.specs.declared.table.Counted.{Counted}
 use Rattle.counting.specs.declared.tally.Rated.{Rated}
@@ -36,22 +35,14 @@ row-in n w x i = entries n 0 (value-in w x i)
 unfoldable pub rows-in : (n w : ℕ) → Planes → Rows
 rows-in n w x = entries n 0 (row-in n w x)
 
--- whether a value goes before the best so far, by how often each is found
-unfoldable pub better-by : (times best-times : ℕ) → (v best : Value) → Bool
-better-by c d v b = not (is-blank v) && (is-blank b || (ltb d c || (eqb d c && bytes-before v b)))
-
--- the best after one more value
-unfoldable pub next-best : (j : ℕ) → Rows → (v best : Value) → Value
-next-best j rows v b = cond (better j rows v b) v b
-
 -- a value counted, and how often it is found in a column; a blank is not counted
 pub record Counts (j w : ℕ) (rows : Rows) (v : Value) (c : Counted) : Type 0 where
   pub value : Stores-value w v (c .value)
   pub times : c .times ≡ cond (is-blank v) 0 (found j v rows)
 
--- the most often found value in a column, whatever t is
-abbrev pub Most-found : (n w j : ℕ) → Rows → Counted → Type 0
-Most-found n w j rows c = (t : ℕ) → Counts j w rows (most (settings n t w) j rows) c
+-- the most often found value in a column: of the settings only w has a part in it
+abbrev pub Most-found : (w j : ℕ) → Rows → Counted → Type 0
+Most-found w j rows c = Counts j w rows (most (settings 0 0 w) j rows) c
 
 -- a value with its confidence
 pub record Rates (w : ℕ) (h : Held) (r : Rated) : Type 0 where

@@ -2,9 +2,9 @@
 -- promise of the call holds, and which reads as the record that the call leaves. A frame taken is put into its slot, a round closed is
 -- written into the arrays, a refusal leaves what the promise says of it. A call that sends needs that there is a frame to send, which
 -- is so wherever V and Y are bytes. Assumes nothing.
-use mathlib.Core.Path.{_≡_, refl, sym, _∙_, ap, subst}
+use mathlib.Core.Path.{_≡_, refl, sym, _∙_, ap, ap₂, subst}
 use mathlib.Core.Bool.{Bool, true, false, cond}
-use mathlib.Core.List.{List, _∷_}
+use mathlib.Core.List.{List, [], _∷_}
 use Prim.Native.Nat.{ℕ, zero, suc, _+_, _<_, _≤_}
 use native.Mathlib.Omega.{arith}
 use lib.Dec.{eqb, leb}
@@ -19,11 +19,11 @@ use Rattle.grading.specs.Count.{most, found, held-of, held-at, held-list}
 use Rattle.grading.proofs.Value.{blank-size}
 use Rattle.grading.proofs.Most.{most-is}
 use Rattle.counting.specs.Stored.{Stores-held}
-use Rattle.record.specs.Record.{Rec, who-as, found-as, next-round, counted}
+use Rattle.record.specs.Record.{Rec, who-as, found-as, next-round}
 use Rattle.record.specs.Refusal.{take-refusal, send-refusal, close-refusal, ask-refusal, counts-up}
-use Rattle.rounds.specs.Exchange.{heard-at, heard-vector, Table, Closed}
+use Rattle.rounds.specs.Exchange.{Table, Closed}
 use Rattle.column.specs.Call.{Call, taking, sending, closing, asking, After-close, Leads, Run, no-call, one-call, Passes, here, later, Frame-of}
-use Rattle.record.specs.View.{settings-of, who-in, view, inbox}
+use Rattle.record.specs.View.{settings-of, who-in, found-in, view}
 use Rattle.record.specs.Stored.{with-slot, with-count, after-refusal, found-now, one-on}
 use Rattle.column.specs.Entry.{Take-says, Send-says, Close-says, Result-says}
 use Rattle.rounds.specs.Steps.Closing.{Finds}
@@ -33,7 +33,7 @@ use Rattle.record.proofs.Refusal.{Opens, close-record, close-round, ask-round}
 use Rattle.record.proofs.View.{found-heard, found-agreed, found-held}
 use Rattle.column.proofs.Taken.{take-reads}
 use Rattle.rounds.proofs.Rows.{Sized, table-sized}
-use Rattle.rounds.proofs.AfterRound.{Inside, inside, finds-heard, finds-agreed, finds-held}
+use Rattle.rounds.proofs.AfterRound.{Inside, inside, finds-of}
 use Rattle.column.proofs.Step.{close-refused, step-of, leads-closing}
 use Rattle.gradecast.specs.Built.{Built-step, takes, sends, closes, asks, Built-run, no-step, one-step}
 use Rattle.gradecast.proofs.Proper.{Proper, proper-step, leads-unique}
@@ -130,15 +130,6 @@ closed-of r q e l = subst (λ (n : ℕ). After-close n r q) e l
 sized-by : {s u : Settings} (vs : Vector) → u ≡ s → Sized s vs → Sized u vs
 sized-by vs e z = subst (λ (x : Settings). Sized x vs) (sym e) z
 
--- V and a table go by who the column is and what came in alone
-inbox-heard : (c : Column) → c .round ≡ 1 → heard-vector (view c) ≡ heard-vector (inbox (c .who) 1 (c .slots))
-unfolding heard-vector heard-at counted view inbox
-inbox-heard c e = rw e refl
-
-inbox-table : (c : Column) (vs : Vector) (rows : Rows) → Table (view c) vs rows → Table (inbox (c .who) (c .round) (c .slots)) vs rows
-unfolding view inbox counted
-inbox-table c vs rows t = record { many = t .many; own-row = t .own-row; others = t .others }
-
 -- after round three what is found is stored
 found-stored : (c : Column) (f : Findings) → Finds c f → Stored (one-on c f)
 unfolding Stored one-on found-now view
@@ -155,26 +146,23 @@ module _ (s : Settings) (k run : ℕ) (v : Value) (o : Opens s k v) where
   closed-built :
       (m : ℕ) (c : Column) (q : Rec) → Inside (c .who) → 1 ≤ m → m ≤ 3 → c .round ≡ m → Proper s k run v (view c) → Proper s k run v q →
       Closed m (view c) q → (f : Findings) × Finds c f
-  unfolding Closed next-round found-as view who-in who-as settings-of settings held-list
+  unfolding Closed next-round found-in found-now found-as view who-in who-as settings-of settings held-list
   closed-built zero c q i low high e p w x = absurd (omega arith)
   closed-built (suc zero) c q i low high e p w x =
       let sized = sized-by (q .found .heard) (p .settings) (w .heard (omega (arith, e, ap (λ (z : Rec). z .round) x))) in
-      let same = ap (λ (z : Rec). z .found .heard) x ∙ inbox-heard c e in
-      (_, finds-heard c i _ e (stores-sized (settings-of (c .who)) _ (rw same at sized)))
+      let stored = stores-sized (settings-of (c .who)) _ (rw (ap (λ (z : Rec). z .found .heard) x) at sized) in
+      (_, finds-of c i 1 _ _ e (ap (λ (vs : Vector). found-as vs [] []) (stored .reads)) refl refl)
   closed-built (suc (suc zero)) c q i low high e p w x =
       let sized = sized-by (q .found .agreed) (p .settings) (w .agreed (omega (arith, e, ap (λ (z : Rec). z .round) (x .2)))) in
-      let heard = found-heard (settings-of (c .who)) (c .round) (c .found) (omega arith) in (
-        _,
-        finds-agreed c i _ (x .0) e (inbox-table c _ (x .0) (subst (λ (vs : Vector). Table (view c) vs (x .0)) heard (x .1)))
-            (stores-sized (settings-of (c .who)) _ (rw (ap (λ (z : Rec). z .found .agreed) (x .2)) at sized)),
-      )
+      let heard = found-heard (settings-of (c .who)) (c .round) (c .found) (omega arith) in
+      let stored = stores-sized (settings-of (c .who)) _ (rw (ap (λ (z : Rec). z .found .agreed) (x .2)) at sized) in
+      (_, finds-of c i 2 _ _ e (ap₂ (λ (vs ys : Vector). found-as vs ys []) (sym heard) (stored .reads)) (x .0, x .1, refl) refl)
   closed-built (suc (suc (suc zero))) c q i low high e p w x =
+      let heard = found-heard (settings-of (c .who)) (c .round) (c .found) (omega arith) in
       let agreed = found-agreed (settings-of (c .who)) (c .round) (c .found) (omega arith) in
-      let sized = held-sized (view c) (x .0) (i .number-low) (sized-by (view c .found .agreed) (p .settings) (p .agreed (omega arith))) (x .1) in (
-        _,
-        finds-held c i _ _ (x .0) e (inbox-table c _ (x .0) (subst (λ (vs : Vector). Table (view c) vs (x .0)) agreed (x .1)))
-            (stores-entries (settings-of (c .who)) (held-at (settings-of (c .who)) (x .0)) sized),
-      )
+      let sized = held-sized (view c) (x .0) (i .number-low) (sized-by (view c .found .agreed) (p .settings) (p .agreed (omega arith))) (x .1) in
+      let stored = stores-entries (settings-of (c .who)) (held-at (settings-of (c .who)) (x .0)) sized in
+      (_, finds-of c i 3 _ _ e (cc (heard, agreed, stored .reads)) (x .0, x .1, refl) refl)
   closed-built (suc (suc (suc (suc m)))) c q i low high e p w x = absurd (omega arith)
 
   close-built :

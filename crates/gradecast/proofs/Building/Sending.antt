@@ -21,7 +21,7 @@ use Rattle.record.specs.Refusal.{send-refusal}
 use Rattle.column.specs.Call.{Call, taking, sending, closing, asking, Passes, here, later, Operand}
 use Rattle.record.proofs.Refusal.{Opens, first-of-zero, round-inside}
 use Rattle.record.proofs.Front.{cut-glued}
-use Rattle.column.proofs.Sent.{operand-own, operand-heard, operand-agreed, frame-sent}
+use Rattle.column.proofs.Sent.{frame-sent}
 use Rattle.column.proofs.Step.{step-of}
 use Rattle.gradecast.proofs.Proper.{Proper, proper-open, proper-step}
 use Rattle.gradecast.proofs.Building.Following.{Can-send, Sendable}
@@ -51,16 +51,16 @@ module _ (s : Settings) (k run : ℕ) (v : Value) (o : Opens s k v) where
   operand-there :
       (m : ℕ) (r : Rec) → r .round ≡ m → 1 ≤ m → m ≤ 3 → Proper s k run v r → Byte-record s r →
       (xs : List ℕ) × (length xs ≡ operand-size (r .who .settings) m) × Operand m (r .who) (r .found) xs
-  unfolding operand-size value-size
+  unfolding Operand operand-size value-size
   operand-there zero r e low high p b = absurd (omega arith)
   operand-there (suc zero) r e low high p b =
-      (r .who .own, ap length (p .own) ∙ o .size ∙ ap (λ (u : Settings). u .w) (sym (p .settings)), operand-own 1 (r .who) (r .found) (r .who .own) refl refl)
+      (r .who .own, ap length (p .own) ∙ o .size ∙ ap (λ (u : Settings). u .w) (sym (p .settings)), refl)
   operand-there (suc (suc zero)) r e low high p b =
-      let x = checks-operand (r .who .settings) (r .found .heard) (rw (p .settings) (o .fine)) (rw (p .settings) (bytes-vector s (r .found .heard) (p .heard (omega arith)) (b .heard (omega arith)))) in
-      (x .0, x .1, operand-heard 2 (r .who) (r .found) (x .0) refl (x .2))
+      checks-operand (r .who .settings) (r .found .heard) (rw (p .settings) (o .fine))
+      (rw (p .settings) (bytes-vector s (r .found .heard) (p .heard (omega arith)) (b .heard (omega arith))))
   operand-there (suc (suc (suc zero))) r e low high p b =
-      let x = checks-operand (r .who .settings) (r .found .agreed) (rw (p .settings) (o .fine)) (rw (p .settings) (bytes-vector s (r .found .agreed) (p .agreed (omega arith)) (b .agreed (omega arith)))) in
-      (x .0, x .1, operand-agreed 3 (r .who) (r .found) (x .0) refl (x .2))
+      checks-operand (r .who .settings) (r .found .agreed) (rw (p .settings) (o .fine))
+      (rw (p .settings) (bytes-vector s (r .found .agreed) (p .agreed (omega arith)) (b .agreed (omega arith))))
   operand-there (suc (suc (suc (suc m)))) r e low high p b = absurd (omega arith)
 
   can-send : (x : Call) (r : Rec) → Proper s k run v r → Byte-record s r → Can-send x r

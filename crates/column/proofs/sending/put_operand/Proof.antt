@@ -13,9 +13,8 @@ use Rattle.record.specs.Frame.{operand-size}
 use Rattle.record.specs.Record.{who-as}
 use Rattle.record.specs.View.{settings-of, who-in}
 use Rattle.record.proofs.Refusal.{first-of-zero, round-inside, record-settings}
-use Rattle.record.proofs.View.{found-heard, found-agreed}
 use Rattle.record.proofs.Front.{front-whole}
-use Rattle.column.proofs.Sent.{operand-own, operand-heard, operand-agreed}
+use Rattle.column.proofs.Sent.{operand-own, operand-checked}
 use Rattle.column.proofs.sending.put_operand.Statement.{statement}
 use Rattle.column.proofs.sending.put_operand.Tie as tie
 
@@ -79,12 +78,14 @@ returns c =
 abbrev start-else : tie.Else1 → tie.Start
 start-else c = c .before .before
 
+checked-requires : tie.Need-checked-requires
+checked-requires c κs = search needs
+
 slice-aggregate-put-checks : tie.Need-slice-aggregate-put-checks
 slice-aggregate-put-checks c = search needs
 
 put-checks-requires : tie.Need-put-checks-requires
-put-checks-requires c κs =
-    let e = c .before .before .before .before in (fine (start-else e), search needs, checks-long (start-else e) (e .if1 .left))
+put-checks-requires c κs = let e = c .before .before .before in (fine (start-else e), search needs, checks-long (start-else e) (e .if1 .left))
 
 same-length-2 : tie.Need-same-length-2
 same-length-2 c = search needs
@@ -93,31 +94,11 @@ returns-2 : tie.Need-returns-2
 unfolding who-in who-as settings-of settings
 returns-2 c =
     let p = c .before .before in
-    let two = p .before .before .before .before in
-    let a = start-else (two .before) .args in
-    operand-heard (a .round) (who-in (a .who)) _ _ (two .if2 .taken)
-    (rw (found-heard (settings-of (a .who)) (a .round) (a .found) (omega (arith, two .if2 .taken))) (p .put-checks .ensures))
-
-slice-aggregate-put-checks-2 : tie.Need-slice-aggregate-put-checks-2
-slice-aggregate-put-checks-2 c = search needs
-
-put-checks-requires-2 : tie.Need-put-checks-requires-2
-put-checks-requires-2 c κs =
-    let e = c .before .before .before .before in (fine (start-else e), search needs, checks-long (start-else e) (e .if1 .left))
-
-same-length-3 : tie.Need-same-length-3
-same-length-3 c = search needs
-
-returns-3 : tie.Need-returns-3
-unfolding who-in who-as settings-of settings
-returns-3 c =
-    let p = c .before .before in
-    let two = p .before .before .before .before in
-    let s = start-else (two .before) in
+    let vector = p .before .before .before in
+    let s = start-else (vector .before) in
     let a = s .args in
-    let three : a .round ≡ 3 = omega (arith, rounds s, two .before .if1 .left, two .if2 .left) in
-    operand-agreed (a .round) (who-in (a .who)) _ _ three
-    (rw (found-agreed (settings-of (a .who)) (a .round) (a .found) (omega (arith, three))) (p .put-checks2 .ensures))
+    operand-checked (a .round) (who-in (a .who)) (a .found) _ (omega (arith, rounds s, vector .before .if1 .left)) (rounds s .1)
+    (rw (vector .checked .ensures) at (p .put-checks .ensures))
 
 pub put-operand-spec : {M : Type 1} → statement M
 put-operand-spec =
@@ -129,11 +110,8 @@ put-operand-spec =
     copy-requires
     same-length
     returns
+    checked-requires
     slice-aggregate-put-checks
     put-checks-requires
     same-length-2
-    returns-2
-    slice-aggregate-put-checks-2
-    put-checks-requires-2
-    same-length-3
-    returns-3)
+    returns-2)

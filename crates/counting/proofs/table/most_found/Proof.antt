@@ -7,7 +7,7 @@ use lib.ListN.{take, drop, replicate}
 use Rattle.code.specs.Settings.{settings, value-size}
 use Rattle.grading.specs.Value.{blank}
 use Rattle.grading.specs.Count.{most, most-from}
-use Rattle.counting.specs.Steps.Table.{rows-in, next-best, Counts}
+use Rattle.counting.specs.Steps.Table.{rows-in, Counts}
 use Rattle.grading.proofs.Value.{zeros-blank}
 use Rattle.counting.proofs.Padded.{stores-blank}
 use Rattle.counting.proofs.Planes.{rows-none, most-on}
@@ -38,7 +38,6 @@ loop-less : tie.Need-loop-less Inv-loop μ-loop
 loop-less c = omega arith
 
 loop-again : tie.Need-loop-again Inv-loop μ-loop
-unfolding next-best
 loop-again c =
     let l = c .before .before .loop in
     let a = c .before .before .before .args in (
@@ -53,7 +52,7 @@ returns c =
     let l = c .before .loop in
     let a = c .before .before .args in
     let e = rw (rows-none (a .n) (a .w) (now (a .table)) (l .i) (omega arith)) at (l .inv .2) in
-    λ t. rw e (l .inv .1)
+    rw e (l .inv .1)
 
 pub most-found-spec : {M : Type 1} → statement M
 most-found-spec =

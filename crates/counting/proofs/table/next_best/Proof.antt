@@ -5,7 +5,8 @@ use mathlib.Core.Bool.{Bool, true, false, cond}
 use denote.Ref.{now}
 use lib.ListN.{take}
 use borrow.Author.Needs.{needs}
-use Rattle.counting.specs.Steps.Table.{rows-in, value-in, next-best}
+use Rattle.grading.specs.Count.{next-best}
+use Rattle.counting.specs.Steps.Table.{rows-in, value-in}
 use Rattle.counting.proofs.Best.{next-same, next-blank, better-counted, next-by}
 use Rattle.counting.proofs.table.next_best.Statement.{statement}
 use Rattle.counting.proofs.table.next_best.Tie as tie
@@ -38,13 +39,15 @@ is-better-requires : tie.Need-is-better-requires
 is-better-requires c κs = search needs
 
 -- the value counted, against the best so far
+abbrev valued : tie.After-is-better → tie.After-value-at
+valued c = let other = c .before .before .before .before in other .before .before .before
+
 compared : (c : tie.After-is-better) (q : Bool) → c .is-better .result ≡ q →
-    (let d = c .before .before .before .before .before .before .before in
-    let a = d .before .args in
+    (let a = valued c .before .args in
     next-best (a .k) (rows-in (a .n) (a .w) (now (a .table))) (value-in (a .w) (now (a .table)) (a .i) (a .k)) (take (a .w) (a .best .value))
     ≡ cond q (value-in (a .w) (now (a .table)) (a .i) (a .k)) (take (a .w) (a .best .value)))
 compared c q e =
-    let d = c .before .before .before .before .before .before .before in
+    let d = valued c in
     let a = d .before .args in
     rw (← (d .value-at .ensures .reads))
     (next-by (a .k) _ _ _ q (sym e ∙ c .is-better .ensures ∙ better-counted (a .k) _ _ _ _ _ (c .before .times-found .ensures) (d .before .pre .4 .times)))
@@ -52,13 +55,13 @@ compared c q e =
 returns-3 : tie.Need-returns-3
 returns-3 c =
     let b = c .before .before in
-    let d = b .before .before .before .before .before .before in
+    let d = valued (c .before) in
     let blank = rw (d .value-at .ensures .reads) at (sym (b .before .before .is-blank .ensures) ∙ b .before .if2 .left) in
     let times = rw (d .value-at .ensures .reads) at (b .times-found .ensures) in
     rw (compared (c .before) true (c .if3 .taken)) (record { value = d .value-at .ensures; times = rw blank times })
 
 returns-4 : tie.Need-returns-4
-returns-4 c = rw (compared (c .before) false (c .if3 .left)) (c .before .before .before .before .before .before .before .before .before .pre .4)
+returns-4 c = rw (compared (c .before) false (c .if3 .left)) (valued (c .before) .before .pre .4)
 
 pub next-best-spec : {M : Type 1} → statement M
 next-best-spec =

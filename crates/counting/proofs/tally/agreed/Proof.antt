@@ -30,15 +30,17 @@ array-share-prefix-value : tie.Need-array-share-prefix-value Inv-loop μ-loop
 array-share-prefix-value c = omega arith
 
 -- the value's bytes
-size : (c : tie.After-agreed-at Inv-loop μ-loop) →
-    length (take (c .before .before .before .before .args .w) (c .agreed-at .result)) ≡ c .before .before .before .before .args .w
+abbrev turn : tie.After-agreed-at Inv-loop μ-loop → tie.At-loop Inv-loop μ-loop
+turn c = c .before .before .before
+
+size : (c : tie.After-agreed-at Inv-loop μ-loop) → (let w = turn c .before .args .w in length (take w (c .agreed-at .result)) ≡ w)
 size c = let long : length (c .agreed-at .result) ≡ value-room = search needs in length-take-le _ (c .agreed-at .result) (omega arith)
 
 slice-aggregate-put-value : tie.Need-slice-aggregate-put-value Inv-loop μ-loop
 slice-aggregate-put-value c = sym (size (c .before .before))
 
 put-value-requires : tie.Need-put-value-requires Inv-loop μ-loop
-put-value-requires c κs = let l = size (c .before .before) in (omega arith, omega arith, c .before .before .before .before .before .loop .inv .1 .long)
+put-value-requires c κs = let l = size (c .before .before) in (omega arith, omega arith, turn (c .before .before) .loop .inv .1 .long)
 
 add-k : tie.Need-add-k Inv-loop μ-loop
 add-k c = omega arith
@@ -49,7 +51,7 @@ loop-less c = omega arith
 loop-again : tie.Need-loop-again Inv-loop μ-loop
 loop-again c =
     let d = c .before .before .before in
-    (omega arith, placed-more _ _ _ _ _ _ (d .before .before .before .loop .inv .1) (size d) (d .agreed-at .ensures .reads) (c .put-value .ensures))
+    (omega arith, placed-more _ _ _ _ _ _ (turn d .loop .inv .1) (size d) (d .agreed-at .ensures .reads) (c .put-value .ensures))
 
 returns : tie.Need-returns Inv-loop μ-loop
 unfolding agreed-vector settings value-size

@@ -36,16 +36,17 @@ array-share-prefix-value : tie.Need-array-share-prefix-value Inv-loop μ-loop
 array-share-prefix-value c = let long : length (c .before .before .held-at .result .value) ≡ value-room = search needs in omega arith
 
 -- the value's bytes
-size : (c : tie.After-held-at Inv-loop μ-loop) →
-    length (take (c .before .before .before .before .args .w) (c .held-at .result .value)) ≡ c .before .before .before .before .args .w
+abbrev turn : tie.After-held-at Inv-loop μ-loop → tie.At-loop Inv-loop μ-loop
+turn c = c .before .before .before
+
+size : (c : tie.After-held-at Inv-loop μ-loop) → (let w = turn c .before .args .w in length (take w (c .held-at .result .value)) ≡ w)
 size c = let long : length (c .held-at .result .value) ≡ value-room = search needs in length-take-le _ (c .held-at .result .value) (omega arith)
 
 slice-aggregate-put-value : tie.Need-slice-aggregate-put-value Inv-loop μ-loop
 slice-aggregate-put-value c = sym (size (c .before .before .before))
 
 put-value-requires : tie.Need-put-value-requires Inv-loop μ-loop
-put-value-requires c κs =
-    let l = size (c .before .before .before) in (omega arith, omega arith, c .before .before .before .before .before .before .loop .inv .1 .long)
+put-value-requires c κs = let d = c .before .before .before in let l = size d in (omega arith, omega arith, turn d .loop .inv .1 .long)
 
 array-write-confidences : tie.Need-array-write-confidences Inv-loop μ-loop
 array-write-confidences c = omega arith
@@ -59,7 +60,7 @@ loop-less c = omega arith
 loop-again : tie.Need-loop-again Inv-loop μ-loop
 loop-again c =
     let d = c .before .before .before .before in
-    let l = d .before .before .before .loop in (
+    let l = turn d .loop in (
       omega arith,
       placed-more _ _ _ _ _ _ (l .inv .1) (size d) (d .held-at .ensures .value .reads) (c .put-value .ensures),
       rw (l .inv .2) (padded-entry most-columns (l .k) _ _ (omega arith) (d .held-at .ensures .confidence)),

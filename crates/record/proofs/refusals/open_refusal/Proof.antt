@@ -1,62 +1,59 @@
 -- `open_refusal` meets its contract: each answer is the line that refuses first, since those before it gave 0. Assumes nothing.
-use mathlib.Core.Path.{_≡_, sym, _∙_}
+use mathlib.Core.Path.{_≡_, refl, sym, _∙_, ap}
+use mathlib.Core.Bool.{Bool, true, false}
+use mathlib.Core.List.{[], _∷_}
+use Prim.Native.Nat.{ℕ}
 use native.Mathlib.Omega.{arith}
 use borrow.Author.Needs.{needs}
 use borrow.Author.Tests.{eq-eqb, ne-eqb}
 use Rattle.code.specs.Settings.{settings}
-use Rattle.record.specs.Refusal.{line, size-refusal, blank-refusal, open-refusal}
-use Rattle.record.proofs.Refusal.{first-of-here, first-of-next, first-of-last}
+use Rattle.record.specs.Refusal.{line, first-of, size-refusal, blank-refusal, open-refusal}
+use Rattle.record.proofs.Refusal.{first-of-here, first-of-next, first-of-last, first-of-known}
 use Rattle.record.proofs.refusals.open_refusal.Statement.{statement}
 use Rattle.record.proofs.refusals.open_refusal.Tie as tie
 
-settings-refusal-requires : tie.Need-settings-refusal-requires
-settings-refusal-requires c κs = search needs
+group-refusal-requires : tie.Need-group-refusal-requires
+group-refusal-requires c κs = search needs
+
+-- the group's lines, then the own value's
+abbrev refusal : tie.Start → ℕ
+refusal c = let a = c .args in open-refusal (settings (a .n) (a .t) (a .w)) (a .number) (a .own .now)
+
+grouped :
+    (c : tie.After-group-refusal) →
+    (let s = c .before .before in
+    refusal s ≡ first-of (c .group-refusal .result ∷ size-refusal (s .args .w) (s .args .own .now) ∷ blank-refusal (s .args .own .now) ∷ []))
+unfolding open-refusal settings
+grouped c = first-of-known (_ ∷ _ ∷ []) _ (c .group-refusal .ensures)
 
 returns : tie.Need-returns
-unfolding open-refusal
-returns c = sym (first-of-here _ (sym (c .before .settings-refusal .ensures)) (c .if1 .taken))
-
-number-refusal-requires : tie.Need-number-refusal-requires
-number-refusal-requires c κs = search needs
+returns c = sym (grouped (c .before) ∙ first-of-here _ refl (c .if1 .taken))
 
 returns-2 : tie.Need-returns-2
-unfolding open-refusal settings
+unfolding size-refusal line
 returns-2 c =
-    let fine = sym (c .before .before .before .settings-refusal .ensures) ∙ c .before .before .if1 .left in
-    sym (first-of-next _ fine (first-of-here _ (sym (c .before .number-refusal .ensures)) (c .if2 .taken)))
-
-returns-3 : tie.Need-returns-3
-unfolding open-refusal size-refusal line settings
-returns-3 c =
-    let a = c .before .before .before .before .before .before .args in
-    let fine = sym (c .before .before .before .before .settings-refusal .ensures) ∙ c .before .before .before .if1 .left in
-    let inside = sym (c .before .before .number-refusal .ensures) ∙ c .before .if2 .left in
-    let size : size-refusal (a .w) (a .own .now) ≡ 5 = simp (ne-eqb _ _ (c .if3 .taken)) in
-    sym (first-of-next _ fine (first-of-next _ inside (first-of-here _ size (λ z. omega arith))))
+    let a = c .before .before .before .before .args in
+    let size : size-refusal (a .w) (a .own .now) ≡ 5 = simp (ne-eqb _ _ (c .if2 .taken)) in
+    sym (grouped (c .before .before) ∙ first-of-next _ (c .before .if1 .left) (first-of-here _ size (λ z. omega arith)))
 
 is-blank-requires : tie.Need-is-blank-requires
 is-blank-requires c κs = search needs
 
-returns-4 : tie.Need-returns-4
-unfolding open-refusal size-refusal blank-refusal line settings
-returns-4 c =
-    let a = c .before .before .before .before .before .before .before .before .args in
-    let fine = sym (c .before .before .before .before .before .before .settings-refusal .ensures) ∙ c .before .before .before .before .before .if1 .left in
-    let inside = sym (c .before .before .before .before .number-refusal .ensures) ∙ c .before .before .before .if2 .left in
-    let size : size-refusal (a .w) (a .own .now) ≡ 0 = simp (eq-eqb _ _ (c .before .before .if3 .left)) in
-    let filled : blank-refusal (a .own .now) ≡ 6 = simp (sym (c .before .is-blank .ensures) ∙ c .if4 .taken) in
-    sym (first-of-next _ fine (first-of-next _ inside (first-of-next _ size (first-of-last _ ∙ filled))))
+valued : (c : tie.After-is-blank) (q : Bool) → c .is-blank .result ≡ q → line 6 q ≡ refusal (c .before .before .before .before .before)
+unfolding size-refusal blank-refusal line
+valued c q e =
+    let group = c .before .before .before in
+    let a = group .before .before .args in
+    let size : size-refusal (a .w) (a .own .now) ≡ 0 = simp (eq-eqb _ _ (c .before .if2 .left)) in
+    sym (grouped group ∙ first-of-next _ (c .before .before .if1 .left) (first-of-next _ size (first-of-last _ ∙ ap (line 6) (sym (c .is-blank .ensures) ∙ e))))
 
-returns-5 : tie.Need-returns-5
-unfolding open-refusal size-refusal blank-refusal line settings
-returns-5 c =
-    let a = c .before .before .before .before .before .before .before .before .args in
-    let fine = sym (c .before .before .before .before .before .before .settings-refusal .ensures) ∙ c .before .before .before .before .before .if1 .left in
-    let inside = sym (c .before .before .before .before .number-refusal .ensures) ∙ c .before .before .before .if2 .left in
-    let size : size-refusal (a .w) (a .own .now) ≡ 0 = simp (eq-eqb _ _ (c .before .before .if3 .left)) in
-    let filled : blank-refusal (a .own .now) ≡ 0 = simp (sym (c .before .is-blank .ensures) ∙ c .if4 .left) in
-    sym (first-of-next _ fine (first-of-next _ inside (first-of-next _ size (first-of-last _ ∙ filled))))
+returns-3 : tie.Need-returns-3
+unfolding line
+returns-3 c = valued (c .before) true (c .if3 .taken)
+
+returns-4 : tie.Need-returns-4
+unfolding line
+returns-4 c = valued (c .before) false (c .if3 .left)
 
 pub open-refusal-spec : {M : Type 1} → statement M
-open-refusal-spec =
-    tie.close (tie.spec settings-refusal-requires returns number-refusal-requires returns-2 returns-3 is-blank-requires returns-4 returns-5)
+open-refusal-spec = tie.close (tie.spec group-refusal-requires returns returns-2 is-blank-requires returns-3 returns-4)

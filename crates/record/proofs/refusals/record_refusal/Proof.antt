@@ -1,83 +1,81 @@
 -- `record_refusal` meets its contract: each answer is the line that refuses first, since those before it gave 0. Assumes nothing.
-use mathlib.Core.Path.{_≡_, sym, _∙_}
+use mathlib.Core.Path.{_≡_, refl, sym, _∙_, ap}
+use mathlib.Core.Bool.{Bool, true, false}
+use mathlib.Core.List.{[], _∷_}
+use Prim.Native.Nat.{_≤_}
 use native.Mathlib.Omega.{arith}
 use lib.ListN.{length, take}
 use lib.Seq.{length-take-le}
 use borrow.Author.Needs.{needs}
 use Rattle.code.specs.Settings.{settings, value-size}
 use Rattle.code.proofs.ValidSettings.{sizes}
-use Rattle.record.specs.Refusal.{line, blank-refusal, record-refusal}
+use Rattle.record.specs.Refusal.{line, blank-refusal, record-refusal, first-of}
+use Rattle.code.specs.Size.{value-room}
 use Rattle.record.specs.Record.{who-as}
 use Rattle.record.specs.View.{settings-of, who-in}
-use Rattle.record.proofs.Refusal.{first-of-here, first-of-next, first-of-last}
+use Rattle.record.proofs.Refusal.{first-of-zero, first-of-here, first-of-next, first-of-last, first-of-known}
 use Rattle.record.proofs.refusals.record_refusal.Statement.{statement}
 use Rattle.record.proofs.refusals.record_refusal.Tie as tie
 
-settings-refusal-requires : tie.Need-settings-refusal-requires
-settings-refusal-requires c κs = search needs
+group-refusal-requires : tie.Need-group-refusal-requires
+group-refusal-requires c κs = search needs
+
+-- the group's lines, then the own value's
+grouped :
+    (c : tie.After-group-refusal) →
+    (let i = c .before .args .who in record-refusal (who-in i) ≡ first-of (c .group-refusal .result ∷ blank-refusal (take (i .w) (i .own)) ∷ []))
+unfolding record-refusal who-in who-as settings-of settings value-size
+grouped c = first-of-known (_ ∷ _ ∷ []) _ (c .group-refusal .ensures)
 
 returns : tie.Need-returns
-unfolding record-refusal who-in who-as settings-of settings
-returns c = sym (first-of-here _ (sym (c .before .settings-refusal .ensures)) (c .if1 .taken))
-
-number-refusal-requires : tie.Need-number-refusal-requires
-number-refusal-requires c κs = search needs
-
-returns-2 : tie.Need-returns-2
-unfolding record-refusal who-in who-as settings-of settings
-returns-2 c =
-    let fine = sym (c .before .before .before .settings-refusal .ensures) ∙ c .before .before .if1 .left in
-    sym (first-of-next _ fine (first-of-here _ (sym (c .before .number-refusal .ensures)) (c .if2 .taken)))
+returns c = sym (grouped (c .before) ∙ first-of-here _ refl (c .if1 .taken))
 
 cast-size : tie.Need-cast-size
 cast-size c = search needs
 
-array-share-prefix-own : tie.Need-array-share-prefix-own
+-- past the group's, the own value has room in its array
+room : (c : tie.Else1) → (let i = c .before .before .args .who in i .w ≤ length (i .own))
 unfolding settings
-array-share-prefix-own c =
-    let r = c .before .before .before .before .before .before .args .who in
-    let long : length (r .own) ≡ 8 = search needs in
-    omega (arith, sizes (settings (r .n) (r .t) (r .w)) (sym (c .before .before .before .before .before .settings-refusal .ensures) ∙ c .before .before .before .before .if1 .left))
+room c =
+    let fine = first-of-zero _ _ (sym (c .before .group-refusal .ensures) ∙ c .if1 .left) .0 in
+    let long : length (c .before .before .args .who .own) ≡ value-room = search needs in
+    omega (arith, sizes _ fine)
+
+array-share-prefix-own : tie.Need-array-share-prefix-own
+array-share-prefix-own c = room (c .before .before)
 
 slice-aggregate-is-blank : tie.Need-slice-aggregate-is-blank
-unfolding settings
-slice-aggregate-is-blank c =
-    let r = c .before .before .before .before .before .before .before .args .who in
-    let long : length (r .own) ≡ 8 = search needs in
-    sym (length-take-le (r .w) (r .own) (omega (arith, sizes (settings (r .n) (r .t) (r .w)) (sym (c .before .before .before .before .before .before .settings-refusal .ensures) ∙ c .before .before .before .before .before .if1 .left))))
+slice-aggregate-is-blank c = sym (length-take-le _ _ (room (c .before .before .before)))
 
 is-blank-requires : tie.Need-is-blank-requires
 is-blank-requires c κs = search needs
 
-returns-3 : tie.Need-returns-3
-unfolding record-refusal blank-refusal line who-in who-as settings-of settings value-size
-returns-3 c =
-    let r = c .before .before .before .before .before .before .before .before .before .args .who in
-    let fine = sym (c .before .before .before .before .before .before .before .before .settings-refusal .ensures) ∙ c .before .before .before .before .before .before .before .if1 .left in
-    let inside = sym (c .before .before .before .before .before .before .number-refusal .ensures) ∙ c .before .before .before .before .before .if2 .left in
-    let filled : blank-refusal (take (r .w) (r .own)) ≡ 6 = simp (sym (c .before .is-blank .ensures) ∙ c .if3 .taken) in
-    sym (first-of-next _ fine (first-of-next _ inside (first-of-last _ ∙ filled)))
+abbrev past : tie.After-is-blank → tie.Else1
+past c = c .before .before .before .before
 
-returns-4 : tie.Need-returns-4
-unfolding record-refusal blank-refusal line who-in who-as settings-of settings value-size
-returns-4 c =
-    let r = c .before .before .before .before .before .before .before .before .before .args .who in
-    let fine = sym (c .before .before .before .before .before .before .before .before .settings-refusal .ensures) ∙ c .before .before .before .before .before .before .before .if1 .left in
-    let inside = sym (c .before .before .before .before .before .before .number-refusal .ensures) ∙ c .before .before .before .before .before .if2 .left in
-    let filled : blank-refusal (take (r .w) (r .own)) ≡ 0 = simp (sym (c .before .is-blank .ensures) ∙ c .if3 .left) in
-    sym (first-of-next _ fine (first-of-next _ inside (first-of-last _ ∙ filled)))
+valued : (c : tie.After-is-blank) (q : Bool) → c .is-blank .result ≡ q → line 6 q ≡ record-refusal (who-in (past c .before .before .args .who))
+unfolding blank-refusal
+valued c q e =
+    let group = past c .before in
+    sym (grouped group ∙ first-of-next _ (past c .if1 .left) (first-of-last _ ∙ ap (line 6) (sym (c .is-blank .ensures) ∙ e)))
+
+returns-2 : tie.Need-returns-2
+unfolding line
+returns-2 c = valued (c .before) true (c .if2 .taken)
+
+returns-3 : tie.Need-returns-3
+unfolding line
+returns-3 c = valued (c .before) false (c .if2 .left)
 
 pub record-refusal-spec : {M : Type 1} → statement M
 record-refusal-spec =
     tie.close
     (tie.spec
-    settings-refusal-requires
+    group-refusal-requires
     returns
-    number-refusal-requires
-    returns-2
     cast-size
     array-share-prefix-own
     slice-aggregate-is-blank
     is-blank-requires
-    returns-3
-    returns-4)
+    returns-2
+    returns-3)

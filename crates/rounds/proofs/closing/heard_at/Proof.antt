@@ -68,7 +68,8 @@ returns-3 : tie.Need-returns-3
 unfolding value-or-blank operand-in
 returns-3 c =
     let copied = c .before in
-    let second = copied .before .before .before .before .before .before in
+    let lent = copied .before .before .before in
+    let second = lent .before .before .before in
     let s = start second in
     let w = s .args .who .w in
     let bytes = s .args .slot .bytes in

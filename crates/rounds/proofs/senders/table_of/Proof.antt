@@ -49,14 +49,21 @@ add-slot-row c = omega arith
 slot-row-requires : tie.Need-slot-row-requires Inv-loop μ-loop
 slot-row-requires c κs = c .before .before .before .before .before .pre
 
+abbrev turn : tie.After-slot-row Inv-loop μ-loop → tie.At-loop Inv-loop μ-loop
+turn c = c .before .before .before
+
+abbrev start : tie.At-loop Inv-loop μ-loop → tie.Start Inv-loop μ-loop
+start c = c .before .before .before
+
 slice-aggregate-put-row : tie.Need-slice-aggregate-put-row Inv-loop μ-loop
 slice-aggregate-put-row c = search needs
 
 put-row-requires : tie.Need-put-row-requires Inv-loop μ-loop
 unfolding coded-settings
 put-row-requires c κs =
-    let b = c .before .before .before .before .before .before .before .before in
-    let l = c .before .before .before .before .before .loop in
+    let at = turn (c .before .before) in
+    let b = start at in
+    let l = at .loop in
     let long : length (c .before .before .slot-row .result) ≡ 256 = search needs in
     (l .inv .1, l .inv .2, omega arith, omega (arith, vector-fits (b .args .own .n) (b .args .own .t) (b .args .own .w) (b .pre .fine)), l .inv .3)
 
@@ -69,9 +76,10 @@ loop-less c = omega arith
 loop-again : tie.Need-loop-again Inv-loop μ-loop
 unfolding coded-settings settings values-in value-size
 loop-again c =
-    let b = c .before .before .before .before .before .before .before .before .before in
-    let l = c .before .before .before .before .before .before .loop in
-    let r = c .before .before .before .slot-row in
+    let made = c .before .before .before in
+    let b = start (turn made) in
+    let l = turn made .loop in
+    let r = made .slot-row in
     let put = c .put-row .ensures in
     let long : length (r .result) ≡ 256 = search needs in
     let fits = vector-fits (b .args .own .n) (b .args .own .t) (b .args .own .w) (b .pre .fine) in (
