@@ -10,10 +10,9 @@ use lib.Dec.{eqb, leb, ltb}
 use lib.ListN.{length, getD, take, drop, length-drop}
 use lib.Seq.{getD-drop, drop-drop}
 use borrow.Author.Tests.{eqb-true, leb-true, ltb-false, not-false, eq-eqb, ne-eqb}
+use Rattle.arrays.proofs.Bool.{and-split, true-not-false}
 use Rattle.code.specs.Settings.{Settings, settings, value-size}
-use Rattle.code.proofs.Bytes.{and-split}
 use Rattle.grading.specs.Value.{is-blank}
-use Rattle.grading.proofs.Bool.{true-not-false}
 use Rattle.record.specs.Frame.{operand-size}
 use Rattle.record.specs.Refusal.{line, first-of, blank-refusal}
 use Rattle.bench_file.specs.Said.{Said, message}

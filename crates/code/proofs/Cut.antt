@@ -10,9 +10,9 @@ use native.Mathlib.Nat.{suc-mul, mul-le-mul, mul-le-mul-right}
 use native.Mathlib.Numerals.{add-one}
 use lib.ListN.{length, getD, take, drop, length-drop, take-append-drop}
 use lib.Seq.{getD-take, getD-drop, length-take-le, ext-getD}
+use Rattle.arrays.specs.Array.{in-front}
 use Rattle.code.specs.Size.{most-columns, most-checks, value-room, vector-room, checks-room}
 use Rattle.code.specs.Vector.{plane, cut, glued}
-use Rattle.code.specs.Entry.{in-front}
 use Rattle.code.proofs.Bytes.{Bytes, bytes-take, bytes-drop}
 use Rattle.code.proofs.Vector.{Values, plane-length}
 

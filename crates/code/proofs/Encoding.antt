@@ -9,6 +9,7 @@ use native.Mathlib.Omega.{arith}
 use native.Mathlib.Decide.{decLt}
 use lib.ListN.{length, getD, take, drop, length-drop, length-reverse, List·getD-append, List·getD-eq-default}
 use lib.Seq.{ext-getD, getD-take, getD-drop, getD-append-add, length-take-le}
+use Rattle.arrays.specs.Array.{Filled}
 use Rattle.field.specs.Field.{times, inverse}
 use Rattle.code.specs.Size.{most-checks, row-width}
 use Rattle.code.specs.Settings.{Settings, settings, settings-refusal, check-count, value-size}
@@ -16,7 +17,6 @@ use Rattle.code.specs.Polynomial.{eval, root, generator}
 use Rattle.code.specs.Plane.{is-codeword}
 use Rattle.code.specs.Vector.{plane, cut}
 use Rattle.code.specs.Entry.{values-in, Checks-put}
-use Rattle.code.specs.Steps.Array.{Filled}
 use Rattle.code.specs.Steps.Lanes.{in-row, lane, Divided, Loaded, Stored}
 use Rattle.code.proofs.Bytes.{Bytes, bytes-drop}
 use Rattle.code.proofs.Polynomial.{eval-ext}

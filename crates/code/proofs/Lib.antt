@@ -10,7 +10,6 @@ pub mod Remainder
 pub mod Vector
 pub mod Checks
 pub mod Quick
-pub mod Written
 pub mod Multiples
 pub mod Doublings
 pub mod Lane

@@ -8,10 +8,10 @@ use native.Mathlib.Omega.{arith}
 use lib.Dec.{ltb, leb, eqb}
 use lib.ListN.{length, take, replicate}
 use borrow.Author.Tests.{le-ltb, le-leb, lt-leb, eq-eqb, eqb-true}
+use Rattle.arrays.proofs.Bool.{and-split}
 use Rattle.code.specs.Settings.{Settings, settings, value-size}
 use Rattle.code.specs.Size.{value-room}
 use Rattle.code.specs.Vector.{same}
-use Rattle.code.proofs.Bytes.{and-split}
 use Rattle.code.proofs.Vector.{same-equal}
 use Rattle.grading.specs.Value.{Value, Rows, blank, is-blank, bytes-before}
 use Rattle.grading.specs.Held.{Held, held-as}
@@ -20,7 +20,7 @@ use Rattle.grading.specs.Count.{found, better, most, agreed-least, sure-least, 
 use Rattle.counting.specs.Steps.Table.{better-by, next-best, Most-found, Rates}
 use Rattle.counting.specs.declared.table.Counted.{Counted}
 use Rattle.grading.proofs.Order.{before-irrefl}
-use Rattle.counting.proofs.Padded.{stores-blank, stored-size}
+use Rattle.counting.proofs.Stored.{stores-blank, stored-size}
 
 module _ (j : ℕ) (rows : Rows) where
   better-self : (v : Value) → better j rows v v ≡ false

@@ -7,6 +7,7 @@ use native.Mathlib.Omega.{arith}
 use lib.Dec.{eqb}
 use lib.ListN.{length, getD}
 use borrow.Author.Tests.{eqb-true, eq-eqb}
+use Rattle.arrays.proofs.Bool.{count-le}
 use Rattle.field.specs.Field.{plus, times, power, inverse}
 use Rattle.field.proofs.Xor.{plus-lt, plus-zero}
 use Rattle.field.proofs.Times.{times-lt, zero-times}
@@ -15,7 +16,7 @@ use Rattle.field.proofs.Division.{divide-times}
 use Rattle.code.specs.Polynomial.{first-exponent}
 use Rattle.code.specs.Settings.{Settings}
 use Rattle.code.specs.Plane.{differ}
-use Rattle.code.proofs.Bytes.{Bytes, count-le}
+use Rattle.code.proofs.Bytes.{Bytes}
 use Rattle.code.proofs.Place.{Place}
 use Rattle.code.proofs.Errors.{errors}
 use Rattle.locator.specs.Errors.{exponent, error-byte, wrong-places}

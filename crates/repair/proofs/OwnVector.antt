@@ -9,12 +9,13 @@ use native.Mathlib.Omega.{arith}
 use lib.Dec.{eqb}
 use lib.ListN.{length, getD, replicate, length-replicate}
 use borrow.Author.Tests.{eqb-true}
+use Rattle.arrays.proofs.Bool.{and-split}
 use Rattle.field.proofs.Xor.{plus-self, plus-zero}
 use Rattle.code.specs.Settings.{Settings, check-count, value-size}
 use Rattle.code.specs.Polynomial.{added}
 use Rattle.code.specs.Vector.{plane, each-long, is-vector, are-checks, has-checks}
 use Rattle.code.specs.Repair.{Near, Repaired, No-repair}
-use Rattle.code.proofs.Bytes.{Bytes, and-split}
+use Rattle.code.proofs.Bytes.{Bytes}
 use Rattle.code.proofs.Polynomial.{length-added, bytes-added, getD-added}
 use Rattle.code.proofs.Vector.{Values, values-of, Vector, vector-of, vector-back, Checked, checked-of, plane-length, plane-bytes}
 use Rattle.repair.specs.Difference.{plus-values, zeros}

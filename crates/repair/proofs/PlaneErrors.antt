@@ -8,12 +8,12 @@ use native.Mathlib.Omega.{arith}
 use native.Mathlib.Decide.{decLt, ℕ-discrete}
 use lib.ListN.{length, getD, take, List·getD-eq-default}
 use lib.Seq.{getD-take, ext-getD, length-take-le}
+use Rattle.arrays.specs.Array.{all-zero, Filled}
+use Rattle.arrays.proofs.Zeros.{zero-at}
 use Rattle.code.specs.Size.{most-bad, plane-room, row-width, place-rows}
 use Rattle.code.specs.Settings.{Settings, check-count}
-use Rattle.code.specs.Steps.Array.{Filled}
 use Rattle.code.specs.Steps.Lanes.{in-row, lane}
 use Rattle.code.proofs.Lane.{lane-length, lane-at}
-use Rattle.code.proofs.Written.{all-zero, zero-at}
 use Rattle.locator.specs.Locator.{massey, value}
 use Rattle.locator.specs.Errors.{wrong-places, Located}
 use Rattle.sums.specs.Places.{Place-powers}

@@ -5,6 +5,7 @@ use mathlib.Core.Bool.{true}
 use mathlib.Core.List.{List, [], _∷_, _++_, map, append-assoc}
 use mathlib.Core.Logic.{inl, inr}
 use mathlib.Core.Option.{some}
+use mathlib.Mathlib.Data.Bool.Basic.{and-intro}
 use Prim.Native.Nat.{ℕ, zero, suc, _+_, _*_, _-_, _≤_}
 use native.Mathlib.Nat.{suc-mul}
 use native.Mathlib.Omega.{arith}
@@ -14,10 +15,11 @@ use borrow.Author.Tests.{eq-eqb, le-ltb}
 use mir.Syntax.{w8}
 use mir.Val.{WT, vint}
 use denote.Array.{arrayVal}
+use Rattle.arrays.specs.Array.{in-front}
 use Rattle.code.specs.Settings.{Settings, settings, settings-refusal, check-count, value-size}
 use Rattle.code.specs.Vector.{is-vector, are-checks, has-checks, cut, glued}
-use Rattle.code.specs.Entry.{values-in, in-front}
-use Rattle.code.proofs.Bytes.{Bytes, and-both}
+use Rattle.code.specs.Entry.{values-in}
+use Rattle.code.proofs.Bytes.{Bytes}
 use Rattle.code.proofs.Cut.{cut-length, cut-values, value-fits, values-fit}
 use Rattle.code.proofs.Vector.{vector-of, values-back}
 use Rattle.code.proofs.Word.{sizes}
@@ -110,7 +112,7 @@ fine-by s v d c k fine e f g h =
 received-checks : (s : Settings) (x : List ℕ) → check-count s * value-size s ≤ length x → Bytes x → are-checks s (checks-in s x) ≡ true
 unfolding are-checks checks-in values-in
 received-checks s x h b =
-    and-both (eq-eqb _ _ (cut-length (check-count s) (value-size s) x)) (values-back (value-size s) _ (cut-values (check-count s) (value-size s) x h b))
+    and-intro (eq-eqb _ _ (cut-length (check-count s) (value-size s) x)) (values-back (value-size s) _ (cut-values (check-count s) (value-size s) x h b))
 
 -- the row of a frame, whose checks are x
 module _ (n t w : ℕ) (vector own x row : List ℕ) (fine : settings-refusal (settings n t w) ≡ 0) (long : n * w ≤ length vector) (own-long : 2 * t * w ≤ length own)

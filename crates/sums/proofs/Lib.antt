@@ -1,4 +1,3 @@
-pub mod Zeros
 pub mod CheckRows
 pub mod Terms
 pub mod CheckSums

@@ -4,11 +4,11 @@ use mathlib.Core.List.{List}
 use Prim.Native.Nat.{ℕ, _*_, _≤_}
 use native.Mathlib.Omega.{arith}
 use lib.ListN.{length}
-use lib.Seq.{length-take-le}
 use borrow.Author.Needs.{needs}
+use Rattle.arrays.specs.Array.{padded}
+use Rattle.arrays.proofs.Front.{copied-part}
 use Rattle.code.specs.Settings.{Settings, settings, value-size}
 use Rattle.code.specs.Size.{most-columns, vector-room}
-use Rattle.code.specs.Entry.{padded}
 use Rattle.code.proofs.Cut.{values-fit}
 use Rattle.code.proofs.Word.{sizes}
 use Rattle.grading.specs.Held.{Held}
@@ -70,37 +70,23 @@ mul-size c = omega (arith, passed (else-at c))
 cast-size : tie.Need-cast-size
 cast-size c = omega (arith, passed (else-at c))
 
-array-share-prefix-held : tie.Need-array-share-prefix-held
-array-share-prefix-held c = omega (arith, passed (else-at c))
-
 slice-aggregate-copy : tie.Need-slice-aggregate-copy
-slice-aggregate-copy c = let p = passed (else-at (c .before)) in sym (length-take-le _ _ (omega (arith, p)))
+slice-aggregate-copy c = search needs
 
 slice-aggregate-copy-2 : tie.Need-slice-aggregate-copy-2
-slice-aggregate-copy-2 c = search needs
+slice-aggregate-copy-2 c = let p = passed (else-at (c .before .before)) in sym (p .values-long)
 
 copy-requires : tie.Need-copy-requires
-copy-requires c κs =
-    let e = else-at (c .before .before) in
-    let a = start e .args .column in
-    let p = passed e in
-    omega (arith, p, length-take-le (a .who .n * a .who .w) (a .found .values) (omega (arith, p)))
-
-array-share-prefix-held-confidences : tie.Need-array-share-prefix-held-confidences
-array-share-prefix-held-confidences c = omega (arith, passed (else-at (c .before .before .before .before)))
+copy-requires c κs = let p = passed (else-at (c .before .before)) in omega (arith, p)
 
 slice-aggregate-copy-3 : tie.Need-slice-aggregate-copy-3
-slice-aggregate-copy-3 c = let p = passed (else-at (c .before .before .before .before .before)) in sym (length-take-le _ _ (omega (arith, p)))
+slice-aggregate-copy-3 c = search needs
 
 slice-aggregate-copy-4 : tie.Need-slice-aggregate-copy-4
-slice-aggregate-copy-4 c = search needs
+slice-aggregate-copy-4 c = let p = passed (else-at (c .before .before .before .before .before .before)) in sym (p .confidences-long)
 
 copy-requires-2 : tie.Need-copy-requires-2
-copy-requires-2 c κs =
-    let e = else-at (c .before .before .before .before .before .before) in
-    let a = start e .args .column in
-    let p = passed e in
-    omega (arith, p, length-take-le (a .who .n) (a .found .confidences) (omega (arith, p)))
+copy-requires-2 c κs = let p = passed (else-at (c .before .before .before .before .before .before)) in omega (arith, p)
 
 -- the values copied
 abbrev first-copy : tie.After-copy2 → tie.After-copy
@@ -129,7 +115,9 @@ returns-2 c =
       answered = e .if1 .left ∙ sym (p .asked);
       done =
           λ z.
-          stores-alike held (first .copy .ensures) (second .copy2 .ensures) stored;
+          stores-alike held
+          (copied-part (a .who .n * a .who .w) 0 (a .found .values) _ _ (omega (arith, p)) (p .room) (first .copy .ensures))
+          (copied-part (a .who .n) 0 (a .found .confidences) _ _ (omega (arith, p)) (p .few) (second .copy2 .ensures)) stored;
       refused = λ z. absurd (z (e .if1 .left));
     }
 
@@ -142,11 +130,9 @@ result-spec =
     cast-many
     mul-size
     cast-size
-    array-share-prefix-held
     slice-aggregate-copy
     slice-aggregate-copy-2
     copy-requires
-    array-share-prefix-held-confidences
     slice-aggregate-copy-3
     slice-aggregate-copy-4
     copy-requires-2

@@ -6,10 +6,10 @@ use mathlib.Core.List.{List, []}
 use Prim.Native.Nat.{ℕ, _≤_, _<_}
 use lib.Dec.{ltb, eqb}
 use lib.ListN.{length, getD}
+use Rattle.arrays.specs.Array.{padded}
 use Rattle.code.specs.Settings.{settings}
 use Rattle.code.specs.Size.{most-columns, value-room}
 use Rattle.code.specs.Vector.{plane, cut}
-use Rattle.code.specs.Entry.{padded}
 use Rattle.grading.specs.Value.{Value, Vector, Rows, is-blank, bytes-before, entries}
 use Rattle.counting.specs.Stored.{Stores-value}
 use Rattle.grading.specs.Count.{found, better, most}

@@ -1,16 +1,17 @@
 -- `by_difference` meets its contract: no difference, a plane that does not decode, or errors that are applied. Assumes nothing.
-use mathlib.Core.Path.{sym}
+use mathlib.Core.Path.{refl, sym, _∙_}
 use Prim.Native.Nat.{_+_, _*_, _≤_}
 use native.Mathlib.Omega.{arith}
 use borrow.Author.Tests.{not-true, not-false}
+use Rattle.arrays.proofs.Zeros.{zero-at}
+use Rattle.arrays.proofs.Front.{copied}
 use Rattle.code.specs.Size.{most-columns, row-width}
 use Rattle.code.specs.Settings.{settings, value-size}
 use Rattle.code.specs.Entry.{values-in}
 use Rattle.code.proofs.Bytes.{Bytes, bytes-every}
 use Rattle.code.proofs.Word.{sizes, value-in-row}
 use Rattle.repair.specs.Entry.{none-found}
-use Rattle.repair.proofs.Answer.{some-bad, decoded-long, copied, sums-spare, answer-none, answer-found, answer-same}
-use Rattle.sums.proofs.Zeros.{zeros-of}
+use Rattle.repair.proofs.Answer.{some-bad, decoded-long, sums-spare, answer-none, answer-found, answer-same}
 use borrow.Author.Needs.{needs}
 use Rattle.repair.proofs.by_difference.Statement.{statement}
 use Rattle.repair.proofs.by_difference.Tie as tie
@@ -53,8 +54,8 @@ slice-aggregate-is-zero c = sym (c .before .difference .ensures .long)
 is-zero-requires : tie.Need-is-zero-requires
 is-zero-requires c κs = search needs
 
-copy-value-requires : tie.Need-copy-value-requires
-copy-value-requires c κs = let l = c .before .before .before .before .before .before .before .before .before .pre .1 in omega arith
+copy-requires : tie.Need-copy-requires
+copy-requires c κs = let l = c .before .before .before .before .before .before .before .before .before .pre .1 in omega arith
 
 same-length : tie.Need-same-length
 same-length c = search needs
@@ -68,8 +69,8 @@ returns c =
     let rows = d .difference in
     answer-same (a .n) (a .t) (a .w) (a .vector .now) (a .own .now) (a .checks .now) (rows .result) (s .pre .0) (own-bytes d) (check-bytes d)
     (s .pre .1 .1) (s .pre .1 .2) (rows .ensures) (a .output .now) _ (bounds s .2)
-    (zeros-of _ (rows .result) (c .before .before .before .before .before .is-zero .ensures) (c .before .before .before .before .if1 .taken))
-    (s .pre .1 .0) (vector-bytes d) (copied (a .vector .now) (a .output .now) _ (omega (arith, s .pre .1)) (c .before .before .copy-value .ensures))
+    (zero-at (rows .result) (sym (c .before .before .before .before .before .is-zero .ensures) ∙ c .before .before .before .before .if1 .taken))
+    (s .pre .1 .0) (vector-bytes d) (copied _ (a .vector .now) (a .output .now) _ refl (omega (arith, s .pre .1)) (c .before .before .copy .ensures))
 
 powers-requires : tie.Need-powers-requires
 powers-requires c κs = search needs
@@ -102,8 +103,9 @@ decode-requires c κs =
         (
           omega arith,
           z .0,
-          some-bad (a .t) (a .w) _ _ (rows .result) _ (y .before .before .before .before .before .before .before .is-zero .ensures)
-              (y .before .before .before .before .before .before .if1 .left) (rows .ensures),
+          some-bad (a .t) (a .w) _ _ (rows .result)
+              (sym (y .before .before .before .before .before .before .before .is-zero .ensures) ∙ y .before .before .before .before .before .before .if1 .left)
+              (rows .ensures),
           omega arith,
           z .2,
           y .syndromes .ensures .long,
@@ -162,7 +164,7 @@ by-difference-spec =
     difference-requires
     slice-aggregate-is-zero
     is-zero-requires
-    copy-value-requires
+    copy-requires
     same-length
     returns
     powers-requires

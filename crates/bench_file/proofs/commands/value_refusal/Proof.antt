@@ -5,6 +5,7 @@ use native.Mathlib.Omega.{arith}
 use borrow.Author.Needs.{needs}
 use lib.ListN.{take, drop}
 use Rattle.grading.specs.Value.{is-blank}
+use Rattle.grading.proofs.Value.{all-zero-blank}
 use Rattle.bench_file.proofs.Faults.{value-own, value-other}
 use Rattle.bench_file.proofs.commands.value_refusal.Statement.{statement}
 use Rattle.bench_file.proofs.commands.value_refusal.Tie as tie
@@ -18,30 +19,32 @@ add-start c = search needs
 add-end : tie.Need-add-end
 add-end c = search needs
 
-sub-is-blank : tie.Need-sub-is-blank
-sub-is-blank c = search needs
+sub-is-zero : tie.Need-sub-is-zero
+sub-is-zero c = search needs
 
-part-is-blank-start : tie.Need-part-is-blank-start
-part-is-blank-start c = search needs
+part-is-zero-start : tie.Need-part-is-zero-start
+part-is-zero-start c = search needs
 
-part-is-blank-end : tie.Need-part-is-blank-end
-part-is-blank-end c = omega (arith, c .before .before .pre .2 (c .if1 .left))
+part-is-zero-end : tie.Need-part-is-zero-end
+part-is-zero-end c = omega (arith, c .before .before .pre .2 (c .if1 .left))
 
-is-blank-requires : tie.Need-is-blank-requires
-is-blank-requires c κs = search needs
+is-zero-requires : tie.Need-is-zero-requires
+is-zero-requires c κs = search needs
 
 returns-2 : tie.Need-returns-2
 returns-2 c f e k =
     let a = c .before .before .before .before .before .args in
+    let value = drop (a .at + 2) (a .file .now) in
     let size : a .at + 2 + a .w - (a .at + 2) ≡ a .w = omega arith in
-    let blank = ap (λ (i : ℕ). is-blank (take i (drop (a .at + 2) (a .file .now)))) (sym size) ∙ sym (c .before .is-blank .ensures) ∙ c .if2 .taken in
+    let blank = ap (λ (i : ℕ). is-blank (take i value)) (sym size) ∙ sym (c .before .is-zero .ensures ∙ all-zero-blank (take (a .at + 2 + a .w - (a .at + 2)) value)) ∙ c .if2 .taken in
     sym (value-own f _ (a .at) (a .w) e (k ∙ c .before .before .before .if1 .left) ∙ simp blank)
 
 returns-3 : tie.Need-returns-3
 returns-3 c f e k =
     let a = c .before .before .before .before .before .args in
+    let value = drop (a .at + 2) (a .file .now) in
     let size : a .at + 2 + a .w - (a .at + 2) ≡ a .w = omega arith in
-    let blank = ap (λ (i : ℕ). is-blank (take i (drop (a .at + 2) (a .file .now)))) (sym size) ∙ sym (c .before .is-blank .ensures) ∙ c .if2 .left in
+    let blank = ap (λ (i : ℕ). is-blank (take i value)) (sym size) ∙ sym (c .before .is-zero .ensures ∙ all-zero-blank (take (a .at + 2 + a .w - (a .at + 2)) value)) ∙ c .if2 .left in
     sym (value-own f _ (a .at) (a .w) e (k ∙ c .before .before .before .if1 .left) ∙ simp blank)
 
 pub value-refusal-spec : {M : Type 1} → statement M
@@ -51,9 +54,9 @@ value-refusal-spec =
     returns
     add-start
     add-end
-    sub-is-blank
-    part-is-blank-start
-    part-is-blank-end
-    is-blank-requires
+    sub-is-zero
+    part-is-zero-start
+    part-is-zero-end
+    is-zero-requires
     returns-2
     returns-3)

@@ -23,17 +23,17 @@ sub-from c = omega arith
 sub-from-2 : tie.Need-sub-from-2 Inv-loop μ-loop
 sub-from-2 c = omega arith
 
-slice-aggregate-copy-value : tie.Need-slice-aggregate-copy-value Inv-loop μ-loop
-slice-aggregate-copy-value c = omega arith
+slice-aggregate-copy : tie.Need-slice-aggregate-copy Inv-loop μ-loop
+slice-aggregate-copy c = omega arith
 
-mul-copy-value : tie.Need-mul-copy-value Inv-loop μ-loop
-mul-copy-value c = omega arith
+mul-copy : tie.Need-mul-copy Inv-loop μ-loop
+mul-copy c = omega arith
 
-mul-copy-value-2 : tie.Need-mul-copy-value-2 Inv-loop μ-loop
-mul-copy-value-2 c = let a = c .before .before .before .before .args in start-fits _ (a .n) (a .size) (omega arith) (omega arith)
+mul-copy-2 : tie.Need-mul-copy-2 Inv-loop μ-loop
+mul-copy-2 c = let a = c .before .before .before .before .args in start-fits _ (a .n) (a .size) (omega arith) (omega arith)
 
-copy-value-requires : tie.Need-copy-value-requires Inv-loop μ-loop
-copy-value-requires c κs =
+copy-requires : tie.Need-copy-requires Inv-loop μ-loop
+copy-requires c κs =
     let a = c .before .before .before .before in
     (omega (arith, c .before .before .loop .inv .1 .long), value-ends _ (a .args .n) (a .args .size) _ (omega arith) (a .pre .2))
 
@@ -46,7 +46,7 @@ loop-less c = omega arith
 loop-again : tie.Need-loop-again Inv-loop μ-loop
 loop-again c =
     let l = c .before .before .before .before in
-    (omega arith, loaded-more _ _ _ _ _ _ (l .before .before .pre .1) (l .loop .inv .1) (c .before .copy-value .ensures))
+    (omega arith, loaded-more _ _ _ _ _ _ (l .before .before .pre .1) (l .loop .inv .1) (c .before .copy .ensures))
 
 returns : tie.Need-returns Inv-loop μ-loop
 returns c = loaded-to (let e : c .before .loop .i ≡ _ = omega arith in e) (c .before .loop .inv .1)
@@ -60,10 +60,10 @@ load-spec =
     loop-holds
     sub-from
     sub-from-2
-    slice-aggregate-copy-value
-    mul-copy-value
-    mul-copy-value-2
-    copy-value-requires
+    slice-aggregate-copy
+    mul-copy
+    mul-copy-2
+    copy-requires
     add-i
     loop-less
     loop-again

@@ -17,25 +17,25 @@ abbrev μ-loop : tie.MeasureT-loop
 loop-holds : tie.Need-loop-holds Inv-loop μ-loop
 loop-holds c = (omega arith, stored-none _ _ _ _ _)
 
-mul-copy-value : tie.Need-mul-copy-value Inv-loop μ-loop
-mul-copy-value c =
+mul-copy : tie.Need-mul-copy Inv-loop μ-loop
+mul-copy c =
     let a = c .before .before .before .before .before .args in
     omega (arith, value-fits (c .before .before .loop .c) (a .count) (a .size) (omega arith))
 
-add-copy-value : tie.Need-add-copy-value Inv-loop μ-loop
-add-copy-value c = omega arith
+add-copy : tie.Need-add-copy Inv-loop μ-loop
+add-copy c = omega arith
 
-sub-copy-value : tie.Need-sub-copy-value Inv-loop μ-loop
-sub-copy-value c = omega arith
+sub-copy : tie.Need-sub-copy Inv-loop μ-loop
+sub-copy c = omega arith
 
-sub-copy-value-2 : tie.Need-sub-copy-value-2 Inv-loop μ-loop
-sub-copy-value-2 c = omega arith
+sub-copy-2 : tie.Need-sub-copy-2 Inv-loop μ-loop
+sub-copy-2 c = omega arith
 
-mul-copy-value-2 : tie.Need-mul-copy-value-2 Inv-loop μ-loop
-mul-copy-value-2 c = omega arith
+mul-copy-2 : tie.Need-mul-copy-2 Inv-loop μ-loop
+mul-copy-2 c = omega arith
 
-copy-value-requires : tie.Need-copy-value-requires Inv-loop μ-loop
-copy-value-requires c κs =
+copy-requires : tie.Need-copy-requires Inv-loop μ-loop
+copy-requires c κs =
     let a = c .before .before .before .before .before .args in
     omega (arith, value-fits (c .before .before .loop .c) (a .count) (a .size) (omega arith), c .before .before .loop .inv .1 .long)
 
@@ -48,7 +48,7 @@ loop-less c = omega arith
 loop-again : tie.Need-loop-again Inv-loop μ-loop
 loop-again c =
     let l = c .before .before .before .before .before in
-    (omega arith, stored-more _ _ _ _ _ _ _ _ (l .loop .inv .1) (c .before .before .copy-value .ensures))
+    (omega arith, stored-more _ _ _ _ _ _ _ _ (l .loop .inv .1) (c .before .before .copy .ensures))
 
 same-length : tie.Need-same-length Inv-loop μ-loop
 same-length c = c .before .loop .inv .1 .long
@@ -63,12 +63,12 @@ store-spec =
     Inv-loop
     μ-loop
     loop-holds
-    mul-copy-value
-    add-copy-value
-    sub-copy-value
-    sub-copy-value-2
-    mul-copy-value-2
-    copy-value-requires
+    mul-copy
+    add-copy
+    sub-copy
+    sub-copy-2
+    mul-copy-2
+    copy-requires
     add-c
     loop-less
     loop-again

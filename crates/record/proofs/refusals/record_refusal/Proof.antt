@@ -6,6 +6,7 @@ use lib.Seq.{length-take-le}
 use borrow.Author.Needs.{needs}
 use Rattle.code.specs.Settings.{settings, value-size}
 use Rattle.code.proofs.Word.{sizes}
+use Rattle.grading.proofs.Value.{all-zero-blank}
 use Rattle.record.specs.Refusal.{line, blank-refusal, record-refusal}
 use Rattle.record.specs.Record.{who-as}
 use Rattle.record.specs.View.{settings-of, who-in}
@@ -39,15 +40,15 @@ array-share-prefix-own c =
     let long : length (r .own) ≡ 8 = search needs in
     omega (arith, sizes (settings (r .n) (r .t) (r .w)) (sym (c .before .before .before .before .before .settings-refusal .ensures) ∙ c .before .before .before .before .if1 .left))
 
-slice-aggregate-is-blank : tie.Need-slice-aggregate-is-blank
+slice-aggregate-is-zero : tie.Need-slice-aggregate-is-zero
 unfolding settings
-slice-aggregate-is-blank c =
+slice-aggregate-is-zero c =
     let r = c .before .before .before .before .before .before .before .args .who in
     let long : length (r .own) ≡ 8 = search needs in
     sym (length-take-le (r .w) (r .own) (omega (arith, sizes (settings (r .n) (r .t) (r .w)) (sym (c .before .before .before .before .before .before .settings-refusal .ensures) ∙ c .before .before .before .before .before .if1 .left))))
 
-is-blank-requires : tie.Need-is-blank-requires
-is-blank-requires c κs = search needs
+is-zero-requires : tie.Need-is-zero-requires
+is-zero-requires c κs = search needs
 
 returns-3 : tie.Need-returns-3
 unfolding record-refusal blank-refusal line who-in who-as settings-of settings value-size
@@ -55,7 +56,7 @@ returns-3 c =
     let r = c .before .before .before .before .before .before .before .before .before .args .who in
     let fine = sym (c .before .before .before .before .before .before .before .before .settings-refusal .ensures) ∙ c .before .before .before .before .before .before .before .if1 .left in
     let inside = sym (c .before .before .before .before .before .before .number-refusal .ensures) ∙ c .before .before .before .before .before .if2 .left in
-    let filled : blank-refusal (take (r .w) (r .own)) ≡ 6 = simp (sym (c .before .is-blank .ensures) ∙ c .if3 .taken) in
+    let filled : blank-refusal (take (r .w) (r .own)) ≡ 6 = simp (sym (c .before .is-zero .ensures ∙ all-zero-blank (take (r .w) (r .own))) ∙ c .if3 .taken) in
     sym (first-of-next _ fine (first-of-next _ inside (first-of-last _ ∙ filled)))
 
 returns-4 : tie.Need-returns-4
@@ -64,7 +65,7 @@ returns-4 c =
     let r = c .before .before .before .before .before .before .before .before .before .args .who in
     let fine = sym (c .before .before .before .before .before .before .before .before .settings-refusal .ensures) ∙ c .before .before .before .before .before .before .before .if1 .left in
     let inside = sym (c .before .before .before .before .before .before .number-refusal .ensures) ∙ c .before .before .before .before .before .if2 .left in
-    let filled : blank-refusal (take (r .w) (r .own)) ≡ 0 = simp (sym (c .before .is-blank .ensures) ∙ c .if3 .left) in
+    let filled : blank-refusal (take (r .w) (r .own)) ≡ 0 = simp (sym (c .before .is-zero .ensures ∙ all-zero-blank (take (r .w) (r .own))) ∙ c .if3 .left) in
     sym (first-of-next _ fine (first-of-next _ inside (first-of-last _ ∙ filled)))
 
 pub record-refusal-spec : {M : Type 1} → statement M
@@ -77,7 +78,7 @@ record-refusal-spec =
     returns-2
     cast-size
     array-share-prefix-own
-    slice-aggregate-is-blank
-    is-blank-requires
+    slice-aggregate-is-zero
+    is-zero-requires
     returns-3
     returns-4)

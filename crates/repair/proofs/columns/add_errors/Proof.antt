@@ -1,11 +1,15 @@
 -- `add_errors` meets its contract: a value without errors is copied. Assumes nothing.
-use mathlib.Core.Path.{_≡_, refl, _∙_, ap}
+use mathlib.Core.Path.{_≡_, refl, sym, _∙_, ap}
 use Prim.Native.Nat.{_-_, _≤_}
 use native.Mathlib.Omega.{arith}
 use lib.ListN.{length, getD}
+use lib.Seq.{length-take-le}
+use borrow.Author.Needs.{needs}
+use Rattle.arrays.specs.Array.{Filled}
+use Rattle.arrays.proofs.Written.{filled-none, filled-more, filled-to}
+use Rattle.arrays.proofs.Zeros.{first-zero-at}
 use Rattle.field.specs.Field.{plus, times}
-use Rattle.code.specs.Steps.Array.{Filled}
-use Rattle.code.proofs.Written.{filled-none, filled-more, filled-to}
+use Rattle.code.specs.Size.{row-width}
 use Rattle.repair.proofs.ColumnErrors.{value-kept}
 use Rattle.repair.proofs.columns.add_errors.Statement.{statement}
 use Rattle.repair.proofs.columns.add_errors.Tie as tie
@@ -16,24 +20,28 @@ Inv-loop powers logarithms constant value errors output₀ p₀ output p = (p �
 abbrev μ-loop : tie.MeasureT-loop
 μ-loop powers logarithms constant value errors output₀ p₀ output p = length output₀ - p
 
-any-of-requires : tie.Need-any-of-requires Inv-loop μ-loop
-any-of-requires c κs = omega (arith, c .before .before .before .pre .1)
+slice-aggregate-is-zero : tie.Need-slice-aggregate-is-zero Inv-loop μ-loop
+slice-aggregate-is-zero c = let s = c .before .before .before .before in sym (length-take-le row-width (s .args .errors .now) (omega (arith, s .pre .1)))
 
-copy-value-requires : tie.Need-copy-value-requires Inv-loop μ-loop
-copy-value-requires c κs = let p = c .before .before .before .before .before .before .pre .1 in (omega (arith, p), omega arith)
+is-zero-requires : tie.Need-is-zero-requires Inv-loop μ-loop
+is-zero-requires c κs = search needs
+
+copy-requires : tie.Need-copy-requires Inv-loop μ-loop
+copy-requires c κs = let p = c .before .before .before .before .before .before .before .pre .1 in (omega (arith, p), omega arith)
 
 same-length : tie.Need-same-length Inv-loop μ-loop
-same-length c = c .before .before .copy-value .ensures .long
+same-length c = c .before .before .copy .ensures .long
 
 returns : tie.Need-returns Inv-loop μ-loop
 returns c =
-    let s = c .before .before .before .before .before .before .before .before .before in
+    let s = c .before .before .before .before .before .before .before .before .before .before in
     value-kept (s .args .constant) (s .args .value .now) (s .args .errors .now) (s .args .output .now) _ (s .fits .constant .fits) (s .pre .1 .0) (s .pre .1 .1)
-    (λ i. c .before .before .before .before .before .before .before .before .shared-slice-known .given i .fits)
-    (c .before .before .before .before .before .any-of .ensures .none (c .before .before .before .before .if1 .taken)) (c .before .before .copy-value .ensures)
+    (λ i. c .before .before .before .before .before .before .before .before .before .shared-slice-known .given i .fits)
+    (first-zero-at row-width (s .args .errors .now) (sym (c .before .before .before .before .before .is-zero .ensures) ∙ c .before .before .before .before .if1 .taken))
+    (c .before .before .copy .ensures)
 
 loop-holds : tie.Need-loop-holds Inv-loop μ-loop
-loop-holds c = (omega arith, filled-none _ _ (c .before .before .before .before .before .args .output .now) refl)
+loop-holds c = (omega arith, filled-none _ _ (c .before .before .before .before .before .before .args .output .now) refl)
 
 shared-slice-read-sum : tie.Need-shared-slice-read-sum Inv-loop μ-loop
 shared-slice-read-sum c = omega arith
@@ -42,7 +50,7 @@ shared-slice-read-product-by : tie.Need-shared-slice-read-product-by Inv-loop μ
 shared-slice-read-product-by c = omega arith
 
 product-by-requires : tie.Need-product-by-requires Inv-loop μ-loop
-product-by-requires c κs = c .before .before .before .before .before .before .before .before .before .pre .0
+product-by-requires c κs = c .before .before .before .before .before .before .before .before .before .before .pre .0
 
 sum-requires : tie.Need-sum-requires Inv-loop μ-loop
 sum-requires c κs = tt
@@ -73,8 +81,9 @@ add-errors-spec =
     (tie.spec
     Inv-loop
     μ-loop
-    any-of-requires
-    copy-value-requires
+    slice-aggregate-is-zero
+    is-zero-requires
+    copy-requires
     same-length
     returns
     loop-holds

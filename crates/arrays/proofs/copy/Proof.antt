@@ -1,28 +1,27 @@
--- `copy_value` meets its contract: the most bytes at once, or byte by byte. Assumes nothing.
+-- `copy` meets its contract: a step of its own, or byte by byte. Assumes nothing.
 use mathlib.Core.Path.{_≡_, refl}
 use Prim.Native.Nat.{_+_, _-_, _≤_}
 use native.Mathlib.Omega.{arith}
 use lib.ListN.{getD}
-use Rattle.code.specs.Size.{value-room}
-use Rattle.code.specs.Steps.Array.{Written}
-use Rattle.code.proofs.Written.{written-none, written-more, written-to}
-use Rattle.code.proofs.planes.copy_value.Statement.{statement}
-use Rattle.code.proofs.planes.copy_value.Tie as tie
+use Rattle.arrays.specs.Array.{one-step, Written}
+use Rattle.arrays.proofs.Written.{written-none, written-more, written-to}
+use Rattle.arrays.proofs.copy.Statement.{statement}
+use Rattle.arrays.proofs.copy.Tie as tie
 
 abbrev Inv-loop : tie.InvT-loop
-Inv-loop to₀ at from start size p₀ to p = (p ≤ size) × Written at p (λ q. getD from (start + q) 0) to₀ to
+Inv-loop to₀ at from start many p₀ to p = (p ≤ many) × Written at p (λ q. getD from (start + q) 0) to₀ to
 
 abbrev μ-loop : tie.MeasureT-loop
-μ-loop to₀ at from start size p₀ to p = size - p
+μ-loop to₀ at from start many p₀ to p = many - p
 
-copy-full-requires : tie.Need-copy-full-requires Inv-loop μ-loop
-copy-full-requires c κs = omega arith
+copy-step-requires : tie.Need-copy-step-requires Inv-loop μ-loop
+copy-step-requires c κs = omega arith
 
 same-length : tie.Need-same-length Inv-loop μ-loop
-same-length c = c .before .before .copy-full .ensures .long
+same-length c = c .before .before .copy-step .ensures .long
 
 returns : tie.Need-returns Inv-loop μ-loop
-returns c = written-to (let e : value-room ≡ _ = omega arith in e) (c .before .before .copy-full .ensures)
+returns c = written-to (let e : one-step ≡ _ = omega arith in e) (c .before .before .copy-step .ensures)
 
 loop-holds : tie.Need-loop-holds Inv-loop μ-loop
 loop-holds c = (omega arith, written-none _ _ _)
@@ -54,13 +53,13 @@ same-length-2 c = c .before .loop .inv .1 .long
 returns-2 : tie.Need-returns-2 Inv-loop μ-loop
 returns-2 c = written-to (let e : c .before .loop .p ≡ _ = omega arith in e) (c .before .loop .inv .1)
 
-pub copy-value-spec : {M : Type 1} → statement M
-copy-value-spec =
+pub copy-spec : {M : Type 1} → statement M
+copy-spec =
     tie.close
     (tie.spec
     Inv-loop
     μ-loop
-    copy-full-requires
+    copy-step-requires
     same-length
     returns
     loop-holds

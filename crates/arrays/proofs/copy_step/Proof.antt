@@ -1,19 +1,18 @@
--- `copy_full` meets its contract. Assumes nothing.
+-- `copy_step` meets its contract. Assumes nothing.
 use mathlib.Core.Path.{_≡_, refl}
 use Prim.Native.Nat.{_+_, _-_, _≤_}
 use native.Mathlib.Omega.{arith}
 use lib.ListN.{getD}
-use Rattle.code.specs.Size.{value-room}
-use Rattle.code.specs.Steps.Array.{Written}
-use Rattle.code.proofs.Written.{written-none, written-more, written-to}
-use Rattle.code.proofs.planes.copy_full.Statement.{statement}
-use Rattle.code.proofs.planes.copy_full.Tie as tie
+use Rattle.arrays.specs.Array.{one-step, Written}
+use Rattle.arrays.proofs.Written.{written-none, written-more, written-to}
+use Rattle.arrays.proofs.copy_step.Statement.{statement}
+use Rattle.arrays.proofs.copy_step.Tie as tie
 
 abbrev Inv-loop : tie.InvT-loop
-Inv-loop to₀ at from start p₀ to p = (p ≤ value-room) × Written at p (λ q. getD from (start + q) 0) to₀ to
+Inv-loop to₀ at from start i₀ to i = (i ≤ one-step) × Written at i (λ q. getD from (start + q) 0) to₀ to
 
 abbrev μ-loop : tie.MeasureT-loop
-μ-loop to₀ at from start p₀ to p = value-room - p
+μ-loop to₀ at from start i₀ to i = one-step - i
 
 loop-holds : tie.Need-loop-holds Inv-loop μ-loop
 loop-holds c = (omega arith, written-none _ _ _)
@@ -30,8 +29,8 @@ add-to-2 c = omega arith
 slice-write-to : tie.Need-slice-write-to Inv-loop μ-loop
 slice-write-to c = omega arith
 
-add-p : tie.Need-add-p Inv-loop μ-loop
-add-p c = omega arith
+add-i : tie.Need-add-i Inv-loop μ-loop
+add-i c = omega arith
 
 loop-less : tie.Need-loop-less Inv-loop μ-loop
 loop-less c = omega arith
@@ -43,10 +42,10 @@ same-length : tie.Need-same-length Inv-loop μ-loop
 same-length c = c .before .loop .inv .1 .long
 
 returns : tie.Need-returns Inv-loop μ-loop
-returns c = written-to (let e : c .before .loop .p ≡ value-room = omega arith in e) (c .before .loop .inv .1)
+returns c = written-to (let e : c .before .loop .i ≡ one-step = omega arith in e) (c .before .loop .inv .1)
 
-pub copy-full-spec : {M : Type 1} → statement M
-copy-full-spec =
+pub copy-step-spec : {M : Type 1} → statement M
+copy-step-spec =
     tie.close
     (tie.spec
     Inv-loop
@@ -56,7 +55,7 @@ copy-full-spec =
     shared-slice-read-to
     add-to-2
     slice-write-to
-    add-p
+    add-i
     loop-less
     loop-again
     same-length
