@@ -3,8 +3,8 @@ use mathlib.Core.Path.{_≡_}
 use mathlib.Core.List.{List}
 use Prim.Native.Nat.{ℕ, _+_, _*_, _≤_, _<_}
 use lib.ListN.{length}
+use Rattle.arrays.specs.Array.{in-front}
 use Rattle.code.specs.Size.{most-columns}
-use Rattle.code.specs.Entry.{in-front}
 use Rattle.record.specs.Record.{Rec}
 use Rattle.bench_file.specs.File.{Parse, refused, parsed, parse-file}
 use Rattle.bench.specs.Group.{Group-run}

@@ -19,7 +19,6 @@ use bench_file::places;
 use bench_file::places::Places;
 use code::sizes::MOST_COLUMNS;
 use code::sizes::VECTOR_ROOM;
-use counting::lent;
 use record::Column;
 
 // Bytes joined by a point.
@@ -44,7 +43,7 @@ fn put_value(output: &mut [u8], at: usize, value: &[u8]) -> usize
     requires { ⌜ at + length (value-text (now value)) ≤ length (now output) ⌝ }
     ensures { λ r. ⌜ Put at (value-text (now (value .entry))) (now (output .entry)) r (now (output .exit)) ⌝ }
 {
-    if lent::is_blank(value) {
+    if arrays::is_zero(value) {
         return printing::put_byte(output, at, 45);
     }
     put_joined(output, at, value)

@@ -17,12 +17,8 @@ pub fn put_bytes(output: &mut [u8], at: usize, bytes: &[u8]) -> usize
     requires { ⌜ at + length (now bytes) ≤ length (now output) ⌝ }
     ensures { λ r. ⌜ Put at (now (bytes .entry)) (now (output .entry)) r (now (output .exit)) ⌝ }
 {
-    let mut i = 0;
-    while i < bytes.len() {
-        output[at + i] = bytes[i];
-        i += 1;
-    }
-    at + i
+    arrays::copy(output, at, bytes, 0, bytes.len());
+    at + bytes.len()
 }
 
 fn put_digit(output: &mut [u8], at: usize, number: u32) -> usize

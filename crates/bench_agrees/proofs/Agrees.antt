@@ -4,7 +4,7 @@ use mathlib.Core.Path.{_∙_, ap}
 use mathlib.Core.List.{List}
 use Prim.Native.Nat.{ℕ}
 use lib.ListN.{length}
-use Rattle.code.specs.Entry.{in-front}
+use Rattle.arrays.specs.Array.{in-front}
 use Rattle.bench_file.specs.File.{parsed}
 use Rattle.bench.specs.Entry.{Printed}
 use Rattle.bench_file.proofs.WholeFile.Sound.{file-sound}

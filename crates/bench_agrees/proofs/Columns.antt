@@ -4,14 +4,14 @@ use mathlib.Core.Path.{_≡_, refl, sym, _∙_, ap}
 use mathlib.Core.Bool.{Bool, true, false, cond, not}
 use mathlib.Core.List.{List, [], _∷_}
 use mathlib.Core.Logic.{_⊎_, inl, inr}
+use mathlib.Mathlib.Data.Bool.Basic.{and-intro}
 use Prim.Native.Nat.{ℕ, zero, suc, _+_, _≤_, _<_}
 use native.Mathlib.Nat.{eq-or-lt-of-le}
 use native.Mathlib.Omega.{arith}
 use lib.ListN.{length}
 use borrow.Author.Tests.{ne-eqb}
-use Rattle.code.proofs.Lists.Tests.{and-both}
+use Rattle.arrays.proofs.Bool.{true-not-false}
 use Rattle.grading.specs.Promise.{member, all-different}
-use Rattle.grading.proofs.Bool.{true-not-false}
 use Rattle.gradecast.specs.Promise.{Good, numbers, Among, first, other}
 use Rattle.bench_file.specs.Scenario.{Scenario, is-good}
 use Rattle.bench_agrees.specs.Promise.{bad-from}
@@ -85,5 +85,5 @@ module _ (f : Scenario) (good : ℕ → Good) where
         go :
             (q : Bool) → all-different (numbers (goods-from n (suc k))) ≡ true →
             all-different (numbers (cond q (good k ∷ goods-from n (suc k)) (goods-from n (suc k)))) ≡ true
-        go true e = rw (number k) (and-both (ap not (number-absent n (suc k) k (omega arith))) e)
+        go true e = rw (number k) (and-intro (ap not (number-absent n (suc k) k (omega arith))) e)
         go false e = e

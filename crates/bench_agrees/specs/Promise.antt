@@ -6,7 +6,7 @@ use mathlib.Core.List.{List}
 use mathlib.Core.Option.{some}
 use Prim.Native.Nat.{ℕ, zero, suc, _+_, _-_, _≤_}
 use lib.ListN.{length, getD}
-use Rattle.code.specs.Entry.{in-front}
+use Rattle.arrays.specs.Array.{in-front}
 use Rattle.grading.specs.Value.{Value}
 use Rattle.grading.specs.Held.{Held}
 use Rattle.record.specs.Record.{Rec}

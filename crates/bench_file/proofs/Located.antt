@@ -10,11 +10,10 @@ use lib.Dec.{eqb}
 use lib.ListN.{length, getD, set, replicate, take, drop}
 use lib.Seq.{getD-set-same, getD-set-other}
 use borrow.Author.Tests.{eqb-true, eqb-false, eq-eqb, ne-eqb}
-use Rattle.code.proofs.Lists.Tests.{and-split}
+use Rattle.arrays.proofs.Bool.{and-split, true-not-false}
 use Rattle.code.specs.Settings.{Settings, settings, settings-refusal}
 use Rattle.code.specs.Size.{most-columns, value-room}
 use Rattle.code.proofs.ValidSettings.{sizes}
-use Rattle.grading.proofs.Bool.{true-not-false}
 use Rattle.record.specs.Refusal.{open-refusal}
 use Rattle.record.specs.Record.{is-taken}
 use Rattle.bench_file.specs.declared.places.Places.{Places}

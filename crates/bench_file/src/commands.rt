@@ -12,7 +12,6 @@ ghost use Rattle.bench_file.specs.Steps.Places.{Located, Places-of};
 ghost use Rattle.bench_file.specs.Steps.CommandAt.{Begins, value-fault, Accepted, Stepped};
 use crate::places;
 use crate::places::Places;
-use counting::lent;
 use record::frames;
 
 // The byte at a place; 0 past the end.
@@ -248,7 +247,7 @@ fn value_refusal(file: &[u8], at: usize, command: u32, w: u32) -> u32
     }
     let start = at + 2;
     let end = start + w as usize;
-    if lent::is_blank(&file[start..end]) {
+    if arrays::is_zero(&file[start..end]) {
         return 6;
     }
     0

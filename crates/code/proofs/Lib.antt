@@ -1,6 +1,5 @@
 pub mod ValidSettings
 pub mod Lists
-pub mod Written
 pub mod Polynomials
 pub mod Codewords
 pub mod Vectors

@@ -9,7 +9,7 @@ use lib.Dec.{ltb, leb}
 use borrow.Author.Tests.{ltb-false, leb-true}
 use Rattle.code.specs.Size.{most-columns, most-checks, value-room, row-width, vector-room, checks-room}
 use Rattle.code.specs.Settings.{Settings, settings, settings-refusal}
-use Rattle.code.proofs.Lists.Tests.{and-split}
+use Rattle.arrays.proofs.Bool.{and-split}
 
 -- settings that are not turned down
 pub record Sizes (s : Settings) : Type 0 where

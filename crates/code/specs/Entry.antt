@@ -1,24 +1,17 @@
 -- What the code calls answer and leave in the lent output. Assumes nothing: these are definitions.
 use mathlib.Core.Path.{_≡_}
 use mathlib.Core.Bool.{true, _||_, not, cond}
-use mathlib.Core.List.{List, _++_}
+use mathlib.Core.List.{List}
 use Prim.Native.Nat.{ℕ, zero, suc, _*_}
 use lib.Dec.{ltb, eqb}
-use lib.ListN.{length, drop, replicate}
+use lib.ListN.{length}
+use Rattle.arrays.specs.Array.{in-front}
 use Rattle.code.specs.Settings.{Settings, settings, settings-refusal, check-count, value-size}
 use Rattle.code.specs.Vector.{has-checks, cut, glued}
 
 -- lent bytes as so many values
 unfoldable pub values-in : Settings → (many : ℕ) → List ℕ → List (List ℕ)
 values-in s k bs = cut k (value-size s) bs
-
--- an output that is filled changes only in its first bytes
-unfoldable pub in-front : (new old : List ℕ) → List ℕ
-in-front new old = new ++ drop (length new) old
-
--- an array of so many bytes that holds these in front: every other byte is 0
-unfoldable pub padded : (room : ℕ) → List ℕ → List ℕ
-padded room bytes = in-front bytes (replicate room 0)
 
 -- check values: 1 to 3; 18 where the vector is not n values long or the output has no room for 2t
 unfoldable pub checks-refusal : Settings → (vector room : ℕ) → ℕ

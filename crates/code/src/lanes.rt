@@ -7,10 +7,10 @@ ghost use mathlib.Core.Bool.{cond};
 ghost use Prim.Native.Nat.{ℕ, _+_, _*_, _≤_, _<_};
 ghost use lib.Dec.{eqb};
 ghost use lib.ListN.{length, getD};
+ghost use Rattle.arrays.specs.Array.{Written};
 ghost use Rattle.field.specs.Field.{plus, doubled, times};
 ghost use Rattle.code.specs.Size.{row-width, multiple-rows};
 ghost use Rattle.code.specs.Steps.Lanes.{in-row, Multiples, Continued, Doublings, Products-added};
-ghost use Rattle.code.specs.Steps.Array.{Written};
 use crate::sizes::MULTIPLE_ROWS;
 use crate::sizes::ROW_WIDTH;
 
@@ -26,11 +26,7 @@ fn first_rows(value: &[u8]) -> [u8; MULTIPLE_ROWS]
     ensures { λ r. ⌜ Multiples 2 (λ p. getD (now (value .entry)) p 0) r ⌝ }
 {
     let mut rows = [0u8; MULTIPLE_ROWS];
-    let mut p = 0;
-    while p < ROW_WIDTH {
-        rows[ROW_WIDTH + p] = value[p];
-        p += 1;
-    }
+    arrays::copy(&mut rows, ROW_WIDTH, value, 0, ROW_WIDTH);
     rows
 }
 

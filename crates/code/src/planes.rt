@@ -1,40 +1,11 @@
 // Values in lent bytes, one after the other, and their planes in rows.
 ghost use mathlib.Core.Path.{_≡_};
 ghost use Prim.Native.Nat.{_+_, _*_, _≤_};
-ghost use lib.ListN.{length, getD};
-ghost use Rattle.code.specs.Size.{most-columns, most-checks, value-room, row-width};
-ghost use Rattle.code.specs.Steps.Array.{Written};
+ghost use lib.ListN.{length};
+ghost use Rattle.code.specs.Size.{most-columns, most-checks, row-width};
 ghost use Rattle.code.specs.Steps.Lanes.{Loaded, Stored};
 use crate::sizes::PLACE_ROWS;
 use crate::sizes::ROW_WIDTH;
-use crate::sizes::VALUE_ROOM;
-
-// A value of the most bytes, which compiles to one step.
-fn copy_full(to: &mut [u8], at: usize, from: &[u8], start: usize)
-    requires { ⌜ (at + value-room ≤ length (now to)) × (start + value-room ≤ length (now from)) ⌝ }
-    ensures { λ _. ⌜ Written at value-room (λ p. getD (now (from .entry)) (start + p) 0) (now (to .entry)) (now (to .exit)) ⌝ }
-{
-    let mut p = 0;
-    while p < VALUE_ROOM {
-        to[at + p] = from[start + p];
-        p += 1;
-    }
-}
-
-pub fn copy_value(to: &mut [u8], at: usize, from: &[u8], start: usize, size: usize)
-    requires { ⌜ (at + size ≤ length (now to)) × (start + size ≤ length (now from)) ⌝ }
-    ensures { λ _. ⌜ Written at size (λ p. getD (now (from .entry)) (start + p) 0) (now (to .entry)) (now (to .exit)) ⌝ }
-{
-    if size == VALUE_ROOM {
-        copy_full(to, at, from, start);
-        return;
-    }
-    let mut p = 0;
-    while p < size {
-        to[at + p] = from[start + p];
-        p += 1;
-    }
-}
 
 // The columns' values as rows, the last column first, and zeros above them.
 pub fn load(vector: &[u8], n: usize, size: usize) -> [u8; PLACE_ROWS]
@@ -45,7 +16,7 @@ pub fn load(vector: &[u8], n: usize, size: usize) -> [u8; PLACE_ROWS]
     let mut i = 0;
     while i < n {
         let from = n - 1 - i;
-        copy_value(&mut rows, ROW_WIDTH * i, vector, from * size, size);
+        arrays::copy(&mut rows, ROW_WIDTH * i, vector, from * size, size);
         i += 1;
     }
     rows
@@ -58,7 +29,7 @@ pub fn store(rows: &[u8], n: usize, count: usize, size: usize, output: &mut [u8]
 {
     let mut c = 0;
     while c < count {
-        copy_value(
+        arrays::copy(
             output,
             c * size,
             rows,

@@ -6,11 +6,11 @@ ghost use mathlib.Core.Path.{_≡_};
 ghost use mathlib.Core.List.{_∷_};
 ghost use Prim.Native.Nat.{ℕ, _+_, _*_, _≤_, _<_};
 ghost use lib.ListN.{length, getD, replicate};
+ghost use Rattle.arrays.specs.Array.{Filled};
 ghost use Rattle.field.specs.Field.{plus, times, inverse};
 ghost use Rattle.field.specs.Table.{Powers, Logarithms};
 ghost use Rattle.code.specs.Size.{most-columns, most-checks, generator-room, row-width};
 ghost use Rattle.code.specs.Polynomial.{Roots, generator as «generator-of»};
-ghost use Rattle.code.specs.Steps.Array.{Filled};
 ghost use Rattle.code.specs.Steps.Lanes.{in-row, Divided};
 use crate::lanes;
 use crate::sizes::GENERATOR_ROOM;
@@ -83,11 +83,7 @@ fn row(rows: &[u8], s: usize) -> [u8; ROW_WIDTH]
     ensures { λ r. ⌜ Filled row-width row-width (λ p. getD (now (rows .entry)) (in-row s p) 0) r ⌝ }
 {
     let mut value = [0u8; ROW_WIDTH];
-    let mut p = 0;
-    while p < ROW_WIDTH {
-        value[p] = rows[ROW_WIDTH * s + p];
-        p += 1;
-    }
+    arrays::copy(&mut value, 0, rows, ROW_WIDTH * s, ROW_WIDTH);
     value
 }
 

@@ -6,17 +6,18 @@ use Prim.Native.Nat.{ℕ, _*_, _≤_, _<_}
 use native.Mathlib.Omega.{arith}
 use lib.ListN.{length, getD, take, drop, replicate}
 use lib.Seq.{getD-take, length-take-le, take-at, ext-getD}
+use Rattle.arrays.specs.Array.{in-front, padded}
+use Rattle.arrays.proofs.Padded.{padded-at}
 use Rattle.code.specs.Settings.{Settings, value-size}
 use Rattle.code.specs.Size.{most-columns, vector-room}
 use Rattle.code.specs.Vector.{cut, glued}
-use Rattle.code.specs.Entry.{values-in, in-front, padded}
+use Rattle.code.specs.Entry.{values-in}
 use Rattle.code.proofs.Vectors.Cut.{cut-length, glued-cut}
 use Rattle.grading.specs.Value.{Vector, entries}
 use Rattle.grading.specs.Held.{held-as, held-in, held-values}
 use Rattle.counting.specs.Stored.{Stores-held}
 use Rattle.grading.proofs.Value.{entries-length, entries-of, entries-alike}
 use Rattle.counting.proofs.Placed.{held-values-entries, held-confidences-entries}
-use Rattle.counting.proofs.Padded.{padded-at}
 use Rattle.record.proofs.Front.{cut-front}
 
 -- the first entries of a list

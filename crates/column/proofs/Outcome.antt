@@ -10,9 +10,11 @@ use lib.Dec.{eqb}
 use lib.ListN.{length, take, drop, take-append-drop}
 use lib.Seq.{take-all}
 use borrow.Author.Tests.{eqb-true, eqb-false}
+use Rattle.arrays.specs.Array.{in-front}
+use Rattle.arrays.proofs.Front.{front-value}
 use Rattle.code.specs.Settings.{Settings, settings-refusal, check-count, value-size}
 use Rattle.code.specs.Vector.{has-checks, glued}
-use Rattle.code.specs.Entry.{values-in, in-front}
+use Rattle.code.specs.Entry.{values-in}
 use Rattle.code.proofs.Vectors.Cut.{cut-length, glued-cut}
 use Rattle.code.proofs.Vectors.Planes.{checks-unique}
 use Rattle.record.specs.Frame.{header-size, operand-size, frame-size, operand-in, checks-in}
@@ -26,7 +28,6 @@ use Rattle.column.specs.Promise.{One-outcome, Sent-taken}
 use Rattle.record.specs.declared.Column.{Column}
 use Rattle.record.proofs.Refusal.{first-of-zero, record-settings, record-number, close-record, close-settings}
 use Rattle.column.proofs.Frame.{frame-fresh, operand-length}
-use Rattle.record.proofs.Front.{front-value}
 use Rattle.record.proofs.View.{found-heard, found-agreed}
 use Rattle.column.proofs.Step.{closing-leads}
 use Rattle.rounds.proofs.Rows.{closed-unique}

@@ -4,9 +4,9 @@ use mathlib.Core.Path.{_≡_}
 use mathlib.Core.List.{List}
 use Prim.Native.Nat.{ℕ}
 use lib.ListN.{length, replicate}
+use Rattle.arrays.specs.Array.{in-front}
 use Rattle.code.specs.Settings.{settings}
 use Rattle.code.specs.Size.{most-columns, vector-room}
-use Rattle.code.specs.Entry.{in-front}
 use Rattle.counting.specs.Stored.{Stores-held}
 use Rattle.record.specs.Frame.{frame-size}
 use Rattle.record.specs.Refusal.{open-refusal, take-refusal, send-refusal, close-refusal, ask-refusal}

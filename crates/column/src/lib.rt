@@ -5,7 +5,6 @@ ghost use Rattle.column.specs.Entry.{Open-says, Take-says, Frame-size-sa
 use code::sizes::MOST_COLUMNS;
 use code::sizes::VALUE_ROOM;
 use code::sizes::VECTOR_ROOM;
-use counting::lent;
 use record::Column;
 use record::Holdings;
 use record::Identity;
@@ -23,7 +22,7 @@ pub fn open(n: u32, t: u32, w: u32, number: u32, run: u16, own: &[u8]) -> Outcom
     let answer = refusals::open_refusal(n, t, w, number, own);
     if answer == 0 {
         let mut value = [0u8; VALUE_ROOM];
-        lent::copy(own, &mut value);
+        arrays::copy(&mut value, 0, own, 0, own.len());
         let who = Identity {
             n,
             t,
@@ -124,8 +123,8 @@ pub fn result(column: Column) -> Holdings
     let held_confidences = found.confidences;
     let many = who.n as usize;
     let size = record::vector_size(who.n, who.w);
-    lent::copy(&held[..size], &mut values);
-    lent::copy(&held_confidences[..many], &mut confidences);
+    arrays::copy(&mut values, 0, &held, 0, size);
+    arrays::copy(&mut confidences, 0, &held_confidences, 0, many);
     Holdings {
         answer,
         values,

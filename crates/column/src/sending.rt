@@ -6,7 +6,6 @@ ghost use Rattle.record.specs.Frame.{operand-size};
 ghost use Rattle.record.specs.Refusal.{first-of, record-refusal, round-refusal};
 ghost use Rattle.column.specs.Call.{Operand};
 ghost use Rattle.record.specs.View.{settings-of, who-in, found-in};
-use counting::lent;
 use record::Findings;
 use record::Identity;
 use rounds::closing;
@@ -20,7 +19,7 @@ pub fn put_operand(who: Identity, round: u32, found: Findings, operand: &mut [u8
     if round == 1 {
         let own = who.own;
         let size = who.w as usize;
-        lent::copy(&own[..size], operand);
+        arrays::copy(operand, 0, &own, 0, size);
         return;
     }
     let vector = closing::checked(round, found);

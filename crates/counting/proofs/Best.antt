@@ -1,26 +1,26 @@
 -- The best so far and one more value. A value that is the best already, or is blank, changes nothing, so it need not be counted;
 -- any other is compared by how often it is found, and a best that is blank, which is not counted, goes behind it. Assumes nothing.
 use mathlib.Core.Path.{_≡_, refl, sym, _∙_, ap, ap₂}
-use mathlib.Core.Bool.{Bool, true, false, cond, _&&_, _||_, not}
+use mathlib.Core.Bool.{Bool, true, false, cond}
 use mathlib.Core.List.{[], _∷_}
 use Prim.Native.Nat.{ℕ, _+_, _*_, _-_, _≤_, _<_}
 use native.Mathlib.Omega.{arith}
-use lib.Dec.{ltb, leb, eqb}
+use lib.Dec.{leb, eqb}
 use lib.ListN.{length, take, replicate}
 use borrow.Author.Tests.{le-ltb, le-leb, lt-leb, eq-eqb, eqb-true}
+use Rattle.arrays.proofs.Bool.{and-split}
 use Rattle.code.specs.Settings.{Settings, settings, value-size}
 use Rattle.code.specs.Size.{value-room}
 use Rattle.code.specs.Vector.{same}
-use Rattle.code.proofs.Lists.Tests.{and-split}
 use Rattle.code.proofs.Vectors.Planes.{same-equal}
-use Rattle.grading.specs.Value.{Value, Rows, blank, is-blank, bytes-before}
+use Rattle.grading.specs.Value.{Value, Rows, blank, is-blank}
 use Rattle.grading.specs.Held.{Held, held-as}
 use Rattle.counting.specs.Stored.{Stores-value}
 use Rattle.grading.specs.Count.{found, better-by, better, next-best, most, agreed-least, sure-least, likely-least, agreed-at, held-of, held-at}
 use Rattle.counting.specs.Steps.Table.{Counts, Most-found, Rates}
 use Rattle.counting.specs.declared.table.Counted.{Counted}
 use Rattle.grading.proofs.Order.{before-irrefl}
-use Rattle.counting.proofs.Padded.{stores-blank, stored-size}
+use Rattle.counting.proofs.Stored.{stores-blank, stored-size}
 
 module _ (j : ℕ) (rows : Rows) where
   better-self : (v : Value) → better j rows v v ≡ false

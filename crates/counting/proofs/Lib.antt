@@ -1,5 +1,5 @@
 pub mod Bytewise
-pub mod Padded
+pub mod Stored
 pub mod Placed
 pub mod Planes
 pub mod Best

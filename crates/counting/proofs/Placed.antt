@@ -9,17 +9,18 @@ use native.Mathlib.Nat.{suc-mul}
 use lib.ListN.{length, getD, take, drop, replicate, length-drop}
 use lib.Seq.{getD-take, getD-drop, drop-drop, length-take-le, ext-getD}
 use borrow.Author.Count.{below-more}
+use Rattle.arrays.specs.Array.{in-front, padded, Written}
+use Rattle.arrays.proofs.Padded.{padded-at}
+use Rattle.arrays.proofs.Zeros.{zeros-at}
 use Rattle.code.specs.Settings.{Settings, value-size}
 use Rattle.code.specs.Size.{most-columns, vector-room}
 use Rattle.code.specs.Vector.{cut, glued}
-use Rattle.code.specs.Entry.{values-in, in-front, padded}
-use Rattle.code.specs.Steps.Array.{Written}
+use Rattle.code.specs.Entry.{values-in}
 use Rattle.code.proofs.Vectors.Cut.{cut-length, value-fits, next-value, in-front-cut}
 use Rattle.grading.specs.Value.{Value, entries}
 use Rattle.grading.specs.Held.{Held, held-as, held-in, held-values, held-confidences}
 use Rattle.counting.specs.Stored.{Stores, Stores-held}
 use Rattle.grading.proofs.Value.{entries-length, entries-of, entries-alike}
-use Rattle.counting.proofs.Padded.{zeros-at, padded-at}
 
 -- value j of an array of values
 pub cut-at : (n w : ℕ) (bs : List ℕ) (j : ℕ) → j < n → getD (cut n w bs) j [] ≡ take w (drop (j * w) bs)

@@ -5,21 +5,24 @@ use mathlib.Core.Bool.{Bool, true, false, cond}
 use mathlib.Core.List.{List, [], _∷_}
 use Prim.Native.Nat.{ℕ, _+_, _*_, _≤_, _<_}
 use native.Mathlib.Omega.{arith}
+use native.Mathlib.Nat.{mul-comm}
 use native.Mathlib.Numerals.{add-one}
 use lib.Dec.{eqb}
 use lib.ListN.{length, getD, drop, set, replicate, length-set, getD-replicate}
-use lib.Seq.{drop-cons, drop-length, ext-getD, getD-set-same, getD-set-other}
+use lib.Seq.{drop-cons, drop-length, getD-set-same, getD-set-other}
 use borrow.Author.Count.{below-more}
 use borrow.Author.Tests.{eqb-true, eqb-false}
+use Rattle.arrays.specs.Array.{padded, Written}
+use Rattle.arrays.proofs.Written.{written-as}
+use Rattle.arrays.proofs.Front.{written-front}
+use Rattle.arrays.proofs.Padded.{padded-at, padded-length}
 use Rattle.code.specs.Size.{most-columns, value-room}
 use Rattle.code.specs.Vector.{plane, same, cut}
-use Rattle.code.specs.Entry.{padded}
 use Rattle.code.proofs.Vectors.Cut.{plane-cut, plane-cut-length}
-use Rattle.grading.specs.Value.{Value, Rows, entries}
+use Rattle.grading.specs.Value.{Value, Rows}
 use Rattle.grading.specs.Count.{found, next-best, most-from}
 use Rattle.counting.specs.Steps.Table.{Planes, byte-in, value-in, row-in, rows-in, Shaped, Row-put}
 use Rattle.grading.proofs.Value.{entries-length, entries-of, entries-alike}
-use Rattle.counting.proofs.Padded.{padded-at, padded-length}
 use Rattle.counting.proofs.Placed.{cut-entries}
 
 module _ (n w : ℕ) (x : Planes) where
@@ -95,11 +98,14 @@ module _ (x : Planes) (p i : ℕ) (row : List ℕ) (p-in : p < length x) (i-in :
       bytes q j h l true e true f = rw (eqb-true q p e, eqb-true j i f, row-new) long
       bytes q j h l false e true f = rw (plane-kept q (eqb-false q p e)) (s .bytes q j h l)
 
--- a byte of each value, given entry by entry
-pub plane-entries : (n w p : ℕ) (row : List ℕ) → p < w → entries n 0 (λ k. getD row (k * w + p) 0) ≡ plane p (cut n w row)
-plane-entries n w p row h =
-    ext-getD 0 (entries n 0 _) (plane p (cut n w row)) (entries-length n 0 _ ∙ sym (plane-cut-length p n w row))
-    (λ k l. (let k-in : k < n = rw (entries-length n 0 (λ j. getD row (j * w + p) 0)) at l in entries-of n k _ 0 k-in ∙ sym (plane-cut n w p row k k-in h)))
+-- a byte of each value, gathered into zeros
+pub plane-gathered :
+    (n w p : ℕ) (row now : List ℕ) → n ≤ most-columns → p < w → Written 0 n (λ k. getD row (w * k + p) 0) (replicate most-columns 0) now →
+    now ≡ padded most-columns (plane p (cut n w row))
+unfolding padded
+plane-gathered n w p row now h l g =
+    written-front n (plane p (cut n w row)) (replicate most-columns 0) now (plane-cut-length p n w row) h
+    (written-as (λ k m. ap (λ (i : ℕ). getD row (i + p) 0) (mul-comm w k) ∙ sym (plane-cut n w p row k m l)) g)
 
 -- a row put in, plane by plane
 module _ (i n w : ℕ) (row : List ℕ) (x : Planes) where

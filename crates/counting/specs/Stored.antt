@@ -3,10 +3,11 @@ use mathlib.Core.Path.{_≡_}
 use mathlib.Core.List.{List}
 use Prim.Native.Nat.{ℕ}
 use lib.ListN.{take}
+use Rattle.arrays.specs.Array.{padded}
 use Rattle.code.specs.Settings.{Settings}
 use Rattle.code.specs.Size.{most-columns, value-room, vector-room}
 use Rattle.code.specs.Vector.{glued}
-use Rattle.code.specs.Entry.{values-in, padded}
+use Rattle.code.specs.Entry.{values-in}
 use Rattle.grading.specs.Value.{Value, Vector}
 use Rattle.grading.specs.Held.{Held, held-in, held-values, held-confidences}
 

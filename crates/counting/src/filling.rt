@@ -2,9 +2,9 @@
 ghost use mathlib.Core.Path.{_≡_};
 ghost use Prim.Native.Nat.{_*_, _≤_, _<_};
 ghost use lib.ListN.{length};
+ghost use Rattle.arrays.specs.Array.{padded};
 ghost use Rattle.code.specs.Size.{most-columns, value-room};
 ghost use Rattle.code.specs.Vector.{plane, cut};
-ghost use Rattle.code.specs.Entry.{padded};
 ghost use Rattle.counting.specs.Steps.Table.{Shaped, Row-put};
 use crate::table::Table;
 use code::sizes::MOST_COLUMNS;
@@ -15,11 +15,7 @@ fn plane_of(row: &[u8], n: usize, w: usize, p: usize) -> [u8; MOST_COLUMNS]
     ensures { λ r. ⌜ r ≡ padded most-columns (plane p (cut n w (now (row .entry)))) ⌝ }
 {
     let mut plane = [0u8; MOST_COLUMNS];
-    let mut k = 0;
-    while k < n {
-        plane[k] = row[k * w + p];
-        k += 1;
-    }
+    arrays::gather(&mut plane, row, w, p, n);
     plane
 }
 

@@ -1,6 +1,5 @@
 // Values counted over a table of rows: Y, values and confidences.
 pub mod filling;
-pub mod lent;
 pub mod table;
 pub mod tally;
 mod values;

@@ -5,14 +5,13 @@ ghost use lib.ListN.{take};
 ghost use Rattle.code.specs.Size.{value-room};
 ghost use Rattle.code.specs.Vector.{same};
 ghost use Rattle.grading.specs.Value.{is-blank, bytes-before};
-use crate::lent;
 use code::sizes::VALUE_ROOM;
 
 pub fn is_blank(value: [u8; VALUE_ROOM], w: usize) -> bool
     requires { ⌜ w ≤ value-room ⌝ }
     ensures { λ r. ⌜ r ≡ is-blank (take w value) ⌝ }
 {
-    lent::is_blank(&value[..w])
+    arrays::is_zero(&value[..w])
 }
 
 pub fn is_same(a: [u8; VALUE_ROOM], b: [u8; VALUE_ROOM], w: usize) -> bool

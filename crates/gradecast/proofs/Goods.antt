@@ -7,10 +7,9 @@ use Prim.Native.Nat.{ℕ, suc}
 use lib.Dec.{eqb}
 use lib.ListN.{length}
 use borrow.Author.Tests.{eqb-true, eq-eqb, ne-eqb, not-true}
-use Rattle.code.proofs.Lists.Tests.{and-split}
+use Rattle.arrays.proofs.Bool.{and-split, true-not-false}
 use Rattle.grading.specs.Promise.{member, all-different}
 use Rattle.gradecast.specs.Promise.{Good, numbers, Among, first, other}
-use Rattle.grading.proofs.Bool.{true-not-false}
 use Rattle.grading.proofs.Count.{member-here, member-there}
 
 -- one of a list under a function, and what holds of each of them

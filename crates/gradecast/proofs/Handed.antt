@@ -11,9 +11,9 @@ use native.Mathlib.Omega.{arith}
 use lib.Dec.{eqb}
 use lib.ListN.{length}
 use borrow.Author.Tests.{eqb-true, eqb-false}
+use Rattle.arrays.proofs.Bool.{true-not-false}
 use Rattle.code.specs.Settings.{Settings, settings-refusal}
 use Rattle.code.proofs.ValidSettings.{sizes}
-use Rattle.grading.proofs.Bool.{true-not-false}
 use Rattle.record.specs.Frame.{operand-in}
 use Rattle.record.specs.Record.{Rec, opened, taken-at, is-taken, counted}
 use Rattle.record.specs.Refusal.{line, repeated-refusal, take-refusal}

@@ -5,27 +5,27 @@ use mathlib.Core.Path.{_≡_, refl, sym, _∙_, subst}
 use mathlib.Core.Bool.{Bool, true, false, cond, _||_, not}
 use mathlib.Core.List.{List, [], _∷_}
 use mathlib.Core.Logic.{_≢_}
+use mathlib.Mathlib.Data.Bool.Basic.{or-inl, or-inr}
 use Prim.Native.Nat.{ℕ, zero, suc, _+_, _<_, _≤_}
 use native.Mathlib.Omega.{arith}
 use lib.Dec.{eqb}
 use lib.ListN.{length, getD}
 use borrow.Author.Tests.{eqb-true, eqb-false, eq-eqb, not-true}
+use Rattle.arrays.proofs.Bool.{and-split, true-not-false, count-le-both}
 use Rattle.code.specs.Vector.{same, differ-values}
-use Rattle.code.proofs.Lists.Tests.{and-split}
 use Rattle.code.proofs.Vectors.Planes.{same-equal}
 use Rattle.grading.specs.Value.{Value, Vector, Rows}
 use Rattle.grading.specs.Count.{found}
-use Rattle.grading.proofs.Bool.{true-not-false, or-true-left, or-true-right, count-le}
 use Rattle.grading.proofs.Value.{same-of-equal}
 use Rattle.grading.specs.Promise.{member, all-different}
 
 pub member-here : (m : ℕ) (ns : List ℕ) → member m (m ∷ ns) ≡ true
 unfolding member
-member-here m ns = or-true-left (eqb m m) (member m ns) (eq-eqb m m refl)
+member-here m ns = or-inl (eqb m m) (member m ns) (eq-eqb m m refl)
 
 pub member-there : (m x : ℕ) (ns : List ℕ) → member m ns ≡ true → member m (x ∷ ns) ≡ true
 unfolding member
-member-there m x ns e = or-true-right (eqb x m) (member m ns) e
+member-there m x ns e = or-inr (eqb x m) (member m ns) e
 
 -- how many of the slots i, i + 1, .. are not in a list
 unfoldable pub missing : List ℕ → (left i : ℕ) → ℕ
@@ -79,7 +79,7 @@ found-near ns j v (x ∷ xs) [] i e h = absurd (omega arith)
 found-near ns j v (x ∷ xs) (y ∷ ys) i e h =
     omega (
       arith,
-      count-le (same (getD x j []) v) (same (getD y j []) v) (member i ns) (λ c d. rw (h i 0 (omega arith) (omega arith) c) at d),
+      count-le-both (same (getD x j []) v) (same (getD y j []) v) (member i ns) (λ c d. rw (h i 0 (omega arith) (omega arith) c) at d),
       found-near ns j v xs ys (suc i) (omega arith) (λ m k f l. h m (suc k) (omega arith) (omega arith)),
     )
 
@@ -92,7 +92,7 @@ found-all ns j v [] i h = omega arith
 found-all ns j v (x ∷ xs) i h =
     omega (
       arith,
-      count-le true (same (getD x j []) v) (member i ns) (λ c d. same-of-equal _ _ (h i 0 (omega arith) (omega arith) c)),
+      count-le-both true (same (getD x j []) v) (member i ns) (λ c d. same-of-equal _ _ (h i 0 (omega arith) (omega arith) c)),
       found-all ns j v xs (suc i) (λ m k f l. h m (suc k) (omega arith) (omega arith)),
     )
 

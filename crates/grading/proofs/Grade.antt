@@ -10,11 +10,11 @@ use native.Mathlib.Omega.{arith}
 use lib.Dec.{leb, eqb}
 use lib.ListN.{length, getD}
 use borrow.Author.Tests.{eqb-true, eqb-false, leb-true, le-leb}
+use Rattle.arrays.proofs.Bool.{true-not-false}
 use Rattle.code.specs.Settings.{Settings}
 use Rattle.grading.specs.Value.{Value, Rows, blank, is-blank}
 use Rattle.grading.specs.Held.{held-as}
 use Rattle.grading.specs.Count.{found, most, agreed-least, sure-least, likely-least, agreed-at, held-of}
-use Rattle.grading.proofs.Bool.{true-not-false}
 use Rattle.grading.proofs.Value.{blank-is-blank}
 use Rattle.grading.specs.Promise.{apart}
 use Rattle.grading.proofs.Most.{most-is, most-of-half}

@@ -1,4 +1,3 @@
-pub mod Bool
 pub mod Value
 pub mod Order
 pub mod Count

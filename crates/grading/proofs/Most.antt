@@ -9,13 +9,12 @@ use native.Mathlib.Omega.{arith}
 use lib.Dec.{ltb, eqb}
 use lib.ListN.{length, getD}
 use borrow.Author.Tests.{eqb-true, eqb-false, ltb-true, ltb-false, not-true}
+use Rattle.arrays.proofs.Bool.{and-split, true-not-false}
 use Rattle.code.specs.Settings.{Settings}
 use Rattle.code.specs.Vector.{same}
-use Rattle.code.proofs.Lists.Tests.{and-split}
 use Rattle.code.proofs.Vectors.Planes.{same-equal}
 use Rattle.grading.specs.Value.{Value, Rows, blank, is-blank, bytes-before}
 use Rattle.grading.specs.Count.{found, better-by, better, next-best, most-from, most}
-use Rattle.grading.proofs.Bool.{true-not-false}
 use Rattle.grading.proofs.Value.{differ-of-not-same}
 use Rattle.grading.proofs.Order.{before-irrefl, before-asym, not-before-trans}
 use Rattle.grading.proofs.Count.{found-two}

@@ -7,8 +7,8 @@ use mathlib.Core.Logic.{_≢_}
 use native.Mathlib.Omega.{arith}
 use lib.Dec.{ltb, eqb}
 use borrow.Author.Tests.{eqb-true, eqb-false, ltb-true, ltb-false, lt-ltb, le-ltb, eq-eqb, ne-eqb}
+use Rattle.arrays.proofs.Bool.{true-not-false}
 use Rattle.grading.specs.Value.{Value, bytes-before}
-use Rattle.grading.proofs.Bool.{true-not-false}
 
 pub before-irrefl : (a : Value) → bytes-before a a ≡ false
 unfolding bytes-before

@@ -5,12 +5,14 @@ use mathlib.Core.Bool.{true, false, _&&_}
 use mathlib.Core.List.{[], _∷_, _++_}
 use Prim.Native.Nat.{ℕ, zero, suc, _+_, _<_, _≤_}
 use native.Mathlib.Omega.{arith}
+use lib.Dec.{eqb}
 use lib.ListN.{length, getD, take, replicate, length-replicate}
 use borrow.Author.Tests.{eq-eqb}
+use Rattle.arrays.specs.Array.{all-zero}
+use Rattle.arrays.proofs.Bool.{true-not-false}
 use Rattle.code.specs.Settings.{Settings, value-size}
 use Rattle.code.specs.Vector.{same}
 use Rattle.grading.specs.Value.{Value, blank, is-blank, entries}
-use Rattle.grading.proofs.Bool.{true-not-false}
 
 pub same-self : (a : Value) → same a a ≡ true
 unfolding same
@@ -24,6 +26,11 @@ pub differ-of-not-same : (a b : Value) → same a b ≡ false → a ≡ b → �
 differ-of-not-same a b e f = true-not-false (sym (same-of-equal a b f) ∙ e)
 
 -- blank
+pub all-zero-blank : (v : Value) → all-zero v ≡ is-blank v
+unfolding is-blank
+all-zero-blank [] = refl
+all-zero-blank (b ∷ bs) = ap (_&&_ (eqb b 0)) (all-zero-blank bs)
+
 pub zeros-blank : (w : ℕ) → is-blank (replicate w 0) ≡ true
 unfolding is-blank
 zeros-blank zero = refl

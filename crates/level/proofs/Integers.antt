@@ -13,8 +13,8 @@ use mir.Syntax.{w64}
 use mir.Val.{SFits, toZ, ofZ}
 use mir.Facts.{toZ-ofZ}
 use borrow.Author.Tests.{ltb-true, ltb-false, lt-ltb, le-ltb}
+use Rattle.arrays.proofs.Bool.{true-not-false}
 use Rattle.grading.specs.Value.{Value}
-use Rattle.grading.proofs.Bool.{true-not-false}
 use Rattle.level.specs.Level.{bits, signed, height, halved}
 use Rattle.level.specs.Steps.Ends.{Short}
 

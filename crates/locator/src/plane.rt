@@ -2,11 +2,11 @@
 ghost use mathlib.Core.Path.{_≡_};
 ghost use Prim.Native.Nat.{ℕ, _*_, _≤_, _<_};
 ghost use lib.ListN.{length, getD};
+ghost use Rattle.arrays.specs.Array.{Filled};
 ghost use Rattle.field.specs.Table.{Powers, Logarithms};
 ghost use Rattle.code.specs.Size.{most-places, plane-room, row-width};
 ghost use Rattle.code.specs.Polynomial.{eval};
 ghost use Rattle.code.specs.Steps.Lanes.{in-row, lane};
-ghost use Rattle.code.specs.Steps.Array.{Filled};
 ghost use Rattle.locator.specs.Locator.{value};
 ghost use Rattle.locator.specs.Errors.{wrong-places};
 ghost use Rattle.locator.specs.Plane.{Listed, Lane-written};
@@ -21,11 +21,7 @@ pub fn plane_of(rows: &[u8], p: usize, many: usize) -> [u8; PLANE_ROOM]
     ensures { λ r. ⌜ Filled plane-room many (λ j. getD (now (rows .entry)) (in-row j p) 0) r ⌝ }
 {
     let mut plane = [0u8; PLANE_ROOM];
-    let mut j = 0;
-    while j < many {
-        plane[j] = rows[ROW_WIDTH * j + p];
-        j += 1;
-    }
+    arrays::gather(&mut plane, rows, ROW_WIDTH, p, many);
     plane
 }
 

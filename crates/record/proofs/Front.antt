@@ -1,32 +1,21 @@
--- Bytes written in front of others. A frame is its header with its operand behind it, and a stored frame's operand is read back as it
--- came; check values glued together are cut into the same values again, so what `check_values` wrote is read as check values.
+-- Bytes in front of others, read again. A stored frame's operand is read back as it came; check values glued together are cut into
+-- the same values again, so what `check_values` wrote is read as check values.
 -- Assumes nothing.
 use mathlib.Core.Path.{_≡_, refl, sym, _∙_, ap, ap₂, subst}
 use mathlib.Core.Bool.{true}
-use mathlib.Core.List.{List, [], _∷_, _++_, append-assoc, append-nil}
+use mathlib.Core.List.{List, [], _∷_, _++_, append-assoc}
 use Prim.Native.Nat.{ℕ, zero, suc, _+_, _*_, _≤_}
 use native.Mathlib.Nat.{suc-mul, suc-add, zero-add}
 use native.Mathlib.Omega.{arith}
-use lib.ListN.{length, take, drop, length-append, length-drop, drop-of-length-le}
-use lib.Seq.{take-at, drop-at, take-nil, take-take, drop-drop, drop-append-le}
+use lib.ListN.{length, take, drop, length-drop}
+use lib.Seq.{take-at, drop-at, take-nil, take-take, drop-append-le}
 use borrow.Author.Tests.{eq-eqb, le-ltb}
-use borrow.Rule.Slice.PartMut.{putMid}
+use Rattle.arrays.specs.Array.{in-front}
 use Rattle.code.specs.Settings.{settings, settings-refusal, check-count, value-size}
 use Rattle.code.specs.Vector.{cut, glued, has-checks}
-use Rattle.code.specs.Entry.{values-in, in-front, checks-refusal, Checks-put, Checks-as, Checks-says}
+use Rattle.code.specs.Entry.{values-in, checks-refusal, Checks-put, Checks-as, Checks-says}
 use Rattle.code.proofs.Vectors.Planes.{Values, checked-of}
 use Rattle.record.specs.Frame.{operand-in, checks-in}
-
--- header and operand
-pub front-twice :
-    (head operand buffer : List ℕ) (k : ℕ) → length head ≡ 4 → length operand ≡ k →
-    putMid 4 k (in-front head buffer) operand ≡ in-front (head ++ operand) buffer
-unfolding in-front
-front-twice head operand buffer k e f =
-    let rest = drop (length head) buffer in
-    ap₂ _++_ (take-at head rest 4 e) (ap (λ (xs : List ℕ). operand ++ drop k xs) (drop-at head rest 4 e) ∙ ap (_++_ operand) (drop-drop k (length head) buffer))
-    ∙ sym (append-assoc head operand (drop (length head + k) buffer))
-    ∙ ap (λ (n : ℕ). (head ++ operand) ++ drop n buffer) (let q : length head + k ≡ length (head ++ operand) = omega (arith, length-append head operand) in q)
 
 -- a frame kept in a longer array
 pub front-operand : (frame old : List ℕ) (k : ℕ) → length frame ≡ 4 + k → take k (operand-in (in-front frame old)) ≡ operand-in frame
@@ -34,16 +23,6 @@ unfolding operand-in in-front
 front-operand frame old k e =
     let rest = drop (length frame) old in
     ap (take k) (drop-append-le 4 frame rest (omega arith)) ∙ take-at (drop 4 frame) rest k (omega (arith, length-drop 4 frame))
-
--- a value kept in a longer array
-pub front-value : (value old : List ℕ) (k : ℕ) → length value ≡ k → take k (in-front value old) ≡ value
-unfolding in-front
-front-value value old k e = take-at value _ k e
-
--- bytes that leave no rest
-pub front-whole : (new old : List ℕ) → length old ≤ length new → in-front new old ≡ new
-unfolding in-front
-front-whole new old h = ap (_++_ new) (drop-of-length-le old h) ∙ append-nil new
 
 -- values glued together and cut again, and those in the front of more bytes
 pub cut-glued : (w : ℕ) (vs : List (List ℕ)) (rest : List ℕ) → Values w vs → cut (length vs) w (glued vs ++ rest) ≡ vs

@@ -4,15 +4,15 @@
 use mathlib.Core.Path.{_≡_, refl, sym, _∙_, ap, ap₂}
 use mathlib.Core.Bool.{Bool, true, false, cond, _&&_, _||_, not}
 use mathlib.Core.List.{List, [], _∷_, _++_}
+use mathlib.Mathlib.Data.Bool.Basic.{and-intro}
 use Prim.Native.Nat.{ℕ, _+_, _*_, _≤_}
 use native.Mathlib.Omega.{arith}
 use lib.Dec.{eqb, ltb, leb}
 use lib.ListN.{length}
 use borrow.Author.Tests.{eqb-true, eqb-false, leb-true, eq-eqb, ne-eqb, le-leb, lt-leb, le-ltb, not-false}
+use Rattle.arrays.proofs.Bool.{and-split, or-split}
 use Rattle.code.specs.Settings.{Settings, settings-refusal}
-use Rattle.code.proofs.Lists.Tests.{and-split, and-both}
 use Rattle.grading.specs.Value.{Value, is-blank}
-use Rattle.grading.proofs.Bool.{or-false}
 use Rattle.record.specs.Frame.{frame-size, round-in, sender-in, run-in}
 use Rattle.record.specs.Record.{Who, Rec, taken-at, is-taken}
 use Rattle.record.specs.Refusal.{line, first-of, number-refusal, size-refusal, blank-refusal, round-refusal, slot-refusal, short-refusal, command-refusal, length-refusal, sender-refusal, run-refusal, other-round-refusal, repeated-refusal, unfinished-refusal, open-refusal, record-refusal, frame-refusal, take-refusal, send-refusal, close-refusal, ask-refusal, room-refusal, counts-up}
@@ -87,7 +87,7 @@ between : (a k b : ℕ) → not (leb a k && leb k b) ≡ false → (a ≤ k) × 
 between a k b e = let both = and-split (leb a k) (leb k b) (not-false _ e) in (leb-true _ _ (both .0), leb-true _ _ (both .1))
 
 inside : (a k b : ℕ) → a ≤ k → k ≤ b → not (leb a k && leb k b) ≡ false
-inside a k b h l = ap not (and-both (le-leb _ _ h) (le-leb _ _ l))
+inside a k b h l = ap not (and-intro (le-leb _ _ h) (le-leb _ _ l))
 
 -- own number, own value, round
 pub number-inside : (n k : ℕ) → number-refusal n k ≡ 0 → (1 ≤ k) × (k ≤ n)
@@ -100,7 +100,7 @@ round-inside m e = between 1 m 3 (line-zero 7 _ (omega arith) e)
 
 pub slot-inside : (n own k : ℕ) → slot-refusal n own k ≡ 0 → (1 ≤ k) × (k ≤ n)
 unfolding slot-refusal
-slot-inside n own k e = between 1 k n (or-false _ _ (line-zero 8 _ (omega arith) e) .0)
+slot-inside n own k e = between 1 k n (or-split _ _ (line-zero 8 _ (omega arith) e) .0)
 
 pub record Opens (s : Settings) (k : ℕ) (v : Value) : Type 0 where
   pub fine : settings-refusal s ≡ 0

@@ -10,9 +10,11 @@ use lib.Dec.{eqb}
 use lib.ListN.{length, getD, set, take, replicate, length-map, List·getD-map}
 use lib.Seq.{getD-take, take-set-lt, length-take-le}
 use borrow.Author.Tests.{eq-eqb, ne-eqb, lt-ltb}
+use Rattle.arrays.specs.Array.{padded}
+use Rattle.arrays.proofs.Front.{front-value}
 use Rattle.code.specs.Settings.{Settings, settings, value-size}
 use Rattle.code.specs.Size.{most-columns, value-room}
-use Rattle.code.specs.Entry.{values-in, padded}
+use Rattle.code.specs.Entry.{values-in}
 use Rattle.code.proofs.ValidSettings.{sizes}
 use Rattle.grading.specs.Value.{Value}
 use Rattle.grading.specs.Held.{held-in}
@@ -25,7 +27,7 @@ use Rattle.record.specs.declared.Slot.{Slot}
 use Rattle.record.specs.declared.Findings.{Findings}
 use Rattle.record.specs.declared.Column.{Column}
 use Rattle.record.proofs.Refusal.{Opens, taken-of}
-use Rattle.record.proofs.Front.{front-value, front-operand}
+use Rattle.record.proofs.Front.{front-operand}
 
 -- one slot
 pub frame-of-empty : (size : ℕ) (x : Slot) → x .taken ≡ 0 → frame-in size x ≡ none

@@ -5,9 +5,9 @@ use mathlib.Core.List.{List, []}
 use Prim.Native.Nat.{ℕ, _+_, _-_}
 use lib.Dec.{eqb}
 use lib.ListN.{set, replicate}
+use Rattle.arrays.specs.Array.{padded}
 use Rattle.code.specs.Size.{most-columns, value-room, vector-room}
 use Rattle.code.specs.Vector.{glued}
-use Rattle.code.specs.Entry.{padded}
 use Rattle.grading.specs.Held.{held-values, held-confidences}
 use Rattle.record.specs.Frame.{longest-frame}
 use Rattle.record.specs.Record.{Found, raised}

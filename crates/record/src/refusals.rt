@@ -5,7 +5,6 @@ ghost use Rattle.code.specs.Settings.{settings, settings-refusal};
 ghost use Rattle.record.specs.Refusal.{first-of, number-refusal, round-refusal, slot-refusal, unfinished-refusal, open-refusal, record-refusal};
 ghost use Rattle.record.specs.View.{who-in};
 use crate::Identity;
-use counting::lent;
 
 // 4: own number not 1 to n.
 fn number_refusal(n: u32, number: u32) -> u32
@@ -42,7 +41,7 @@ pub fn open_refusal(n: u32, t: u32, w: u32, number: u32, own: &[u8]) -> u32
     if own.len() != w as usize {
         return 5;
     }
-    if lent::is_blank(own) {
+    if arrays::is_zero(own) {
         return 6;
     }
     0
@@ -58,7 +57,7 @@ fn record_refusal(who: Identity) -> u32
     }
     let own = who.own;
     let size = who.w as usize;
-    if lent::is_blank(&own[..size]) {
+    if arrays::is_zero(&own[..size]) {
         return 6;
     }
     0

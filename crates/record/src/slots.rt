@@ -8,7 +8,6 @@ ghost use Rattle.record.specs.Stored.{no-slot, frame-slot};
 use crate::LONGEST_FRAME;
 use crate::Slot;
 use code::sizes::MOST_COLUMNS;
-use counting::lent;
 
 // Slots in which nothing came.
 pub fn no_slots() -> [Slot; MOST_COLUMNS]
@@ -27,6 +26,6 @@ pub fn filled(frame: &[u8]) -> Slot
     ensures { λ r. ⌜ r ≡ frame-slot (now (frame .entry)) ⌝ }
 {
     let mut bytes = [0u8; LONGEST_FRAME];
-    lent::copy(frame, &mut bytes);
+    arrays::copy(&mut bytes, 0, frame, 0, frame.len());
     Slot { taken: 1, bytes }
 }

@@ -2,20 +2,20 @@
 -- the vector of their errors is the zeros repaired; and where the checks are the same, the zeros need no repair. Assumes nothing.
 use mathlib.Core.Path.{_≡_, refl, sym, _∙_, ap, ap₂}
 use mathlib.Core.Bool.{Bool, true, false}
-use mathlib.Core.List.{List, _++_}
+use mathlib.Core.List.{List}
 use mathlib.Core.Logic.{inl, inr}
 use Prim.Native.Nat.{ℕ, zero, suc, _+_, _*_, _-_, _≤_, _<_}
 use native.Mathlib.Omega.{arith}
-use lib.ListN.{length, getD, drop, replicate, length-replicate, length-append, length-drop, List·getD-append}
-use lib.Seq.{take-all, ext-getD, getD-append-add, getD-drop}
-use native.Mathlib.Decide.{decLt}
+use lib.ListN.{length, getD, drop, replicate, length-replicate}
+use lib.Seq.{take-all}
+use Rattle.arrays.specs.Array.{in-front, all-zero}
+use Rattle.arrays.proofs.Zeros.{some-not-zero}
 use Rattle.code.specs.Size.{row-width, place-rows}
-use Rattle.code.specs.Steps.Array.{Written}
 use Rattle.code.specs.Settings.{Settings, settings, settings-refusal, check-count, value-size}
 use Rattle.code.specs.Polynomial.{root}
 use Rattle.code.specs.Plane.{is-codeword}
 use Rattle.code.specs.Vector.{plane, cut, glued}
-use Rattle.code.specs.Entry.{values-in, in-front}
+use Rattle.code.specs.Entry.{values-in}
 use Rattle.code.specs.Steps.Lanes.{in-row, lane}
 use Rattle.code.proofs.Lists.Bytes.{Bytes, bytes-zeros}
 use Rattle.code.proofs.Vectors.Cut.{cut-length, cut-values, glued-cut}
@@ -27,7 +27,7 @@ use Rattle.code.proofs.Codewords.Word.{word-back}
 use Rattle.locator.specs.Errors.{mended}
 use Rattle.repair.specs.Difference.{plus-values, zeros}
 use Rattle.repair.specs.Entry.{Done-by, none-found}
-use Rattle.sums.specs.Rows.{Values-added, Zeros-as}
+use Rattle.sums.specs.Rows.{Values-added}
 use Rattle.repair.specs.Steps.Columns.{column-errors}
 use Rattle.repair.specs.Steps.Planes.{Decoded-as}
 use Rattle.sums.proofs.Sums.CheckRows.{values-lane}
@@ -41,36 +41,15 @@ glued-whole n w vector l = glued-cut n w vector (omega arith) ∙ take-all (n * 
 
 -- checks that differ are of settings with bad columns borne
 pub some-bad :
-    (t w : ℕ) (own checks rows : List ℕ) (e : Bool) → Zeros-as e rows → e ≡ false → Values-added (2 * t) w own checks rows → 1 ≤ t
-unfolding Zeros-as
-some-bad t w own checks rows true z q d = absurd (let y : _≡_ {A = ℕ} 0 1 = cc in omega arith)
-some-bad zero w own checks rows false (i, other) q d = absurd (other (d .beyond i (omega arith)))
-some-bad (suc t) w own checks rows false z q d = omega arith
+    (t w : ℕ) (own checks rows : List ℕ) → all-zero rows ≡ false → Values-added (2 * t) w own checks rows → 1 ≤ t
+some-bad zero w own checks rows z d = let (i, inside, other) = some-not-zero rows z in absurd (other (d .beyond i (omega arith)))
+some-bad (suc t) w own checks rows z d = omega arith
 
 pub decoded-long :
     (found : Bool) (planes : ℕ) (s : Settings) (sums weighted : List ℕ) → found ≡ true → Decoded-as found planes s sums weighted → length weighted ≡ place-rows
 unfolding Decoded-as
 decoded-long true planes s sums weighted e d = d .long
 decoded-long false planes s sums weighted e d = absurd (let y : _≡_ {A = ℕ} 0 1 = cc in omega arith)
-
--- a vector copied to the front of an output
-pub copied :
-    (vector out now : List ℕ) → length vector ≤ length out → Written 0 (length vector) (λ p. getD vector (0 + p) 0) out now → now ≡ in-front vector out
-unfolding in-front
-copied vector out now h w =
-    ext-getD 0 now (vector ++ drop (length vector) out) (w .long ∙ sym (length-append vector _ ∙ long)) (λ i l. go i (decLt i (length vector)))
-  where
-    long : length vector + length (drop (length vector) out) ≡ length out
-    long = omega (arith, length-drop (length vector) out)
-
-    go : (i : ℕ) → Dec (i < length vector) → getD now i 0 ≡ getD (vector ++ drop (length vector) out) i 0
-    go i (yes a) =
-        ap (λ (k : ℕ). getD now k 0) (let e : i ≡ 0 + i = omega arith in e) ∙ w .new i a ∙ ap (λ (k : ℕ). getD vector k 0) (let e : 0 + i ≡ i = omega arith in e)
-        ∙ sym (List·getD-append vector (drop (length vector) out) 0 i a)
-    go i (no a) =
-        w .after i (omega arith) ∙ ap (λ (k : ℕ). getD out k 0) (let e : i ≡ length vector + (i - length vector) = omega arith in e)
-        ∙ sym (ap (λ (k : ℕ). getD (vector ++ drop (length vector) out) k 0) (let e : i ≡ length vector + (i - length vector) = omega arith in e)
-        ∙ getD-append-add vector (drop (length vector) out) (i - length vector) 0 ∙ getD-drop (length vector) out (i - length vector) 0)
 
 module _ (n t w : ℕ) (vector own checks rows : List ℕ) (allowed : settings-refusal (settings n t w) ≡ 0) (own-bytes : Bytes own) (check-bytes : Bytes checks) (own-long : length own ≡ 2 * t * w) (checks-long : length checks ≡ 2 * t * w) (difference : Values-added (2 * t) w own checks rows) where
   abbrev s : Settings

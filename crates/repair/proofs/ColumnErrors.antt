@@ -10,15 +10,14 @@ use native.Mathlib.Nat.{suc-mul}
 use native.Mathlib.Numerals.{add-one}
 use lib.ListN.{length, getD, take, drop, length-append, length-drop}
 use lib.Seq.{length-take-le, getD-take, take-at, drop-at, drop-drop, ext-getD, getD-drop}
+use Rattle.arrays.specs.Array.{in-front, Filled, Written}
 use Rattle.field.specs.Field.{plus, times, power, inverse}
 use Rattle.field.proofs.Xor.{plus-zero}
 use Rattle.field.proofs.Times.{times-zero}
 use Rattle.field.proofs.Power.{power-lt}
 use Rattle.code.specs.Size.{row-width}
-use Rattle.code.specs.Steps.Array.{Filled, Written}
 use Rattle.code.specs.Polynomial.{first-exponent, added, scaled}
 use Rattle.code.specs.Vector.{cut, glued, plane, is-vector}
-use Rattle.code.specs.Entry.{in-front}
 use Rattle.code.proofs.Lists.Bytes.{Bytes, bytes-take, bytes-drop}
 use Rattle.code.proofs.Polynomials.Arithmetic.{getD-added, getD-scaled, length-added, length-scaled, bytes-scaled}
 use Rattle.code.proofs.Vectors.Cut.{next-value, cut-length}

@@ -6,10 +6,11 @@ use mathlib.Core.Logic.{_⊎_}
 use Prim.Native.Nat.{ℕ, zero, suc, _*_}
 use lib.Dec.{ltb, eqb}
 use lib.ListN.{length}
+use Rattle.arrays.specs.Array.{in-front}
 use Rattle.code.specs.Settings.{Settings, settings, settings-refusal, check-count, value-size}
 use Rattle.code.specs.Vector.{is-vector, are-checks, has-checks, glued}
 use Rattle.code.specs.Repair.{Repaired, No-repair}
-use Rattle.code.specs.Entry.{values-in, in-front}
+use Rattle.code.specs.Entry.{values-in}
 use Rattle.repair.specs.Difference.{plus-values, zeros}
 
 -- the answer "none"; every other answer but 0 is a refusal's number

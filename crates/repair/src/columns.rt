@@ -2,19 +2,17 @@
 ghost use mathlib.Core.Path.{_≡_};
 ghost use Prim.Native.Nat.{_+_, _*_, _≤_};
 ghost use lib.ListN.{length, getD};
+ghost use Rattle.arrays.specs.Array.{in-front, Filled};
 ghost use Rattle.field.specs.Field.{plus, times, power};
 ghost use Rattle.field.specs.Table.{Powers, Logarithms};
 ghost use Rattle.code.specs.Size.{most-columns, row-width};
 ghost use Rattle.code.specs.Polynomial.{first-exponent};
-ghost use Rattle.code.specs.Steps.Array.{Filled};
 ghost use Rattle.code.specs.Vector.{cut, glued};
-ghost use Rattle.code.specs.Entry.{in-front};
 ghost use Rattle.repair.specs.Difference.{plus-values};
 ghost use Rattle.repair.specs.Steps.Columns.{column-errors};
 use code::sizes::MOST_COLUMNS;
 use code::sizes::ROW_WIDTH;
 use sums::places::progression;
-use sums::rows::any_of;
 
 // What divides a column's weight out of its error: powers of the first root, 2 to its logarithm.
 fn inverse_weights(powers: &[u8; 255], logarithms: &[u8; 256]) -> [u8; MOST_COLUMNS]
@@ -41,8 +39,8 @@ fn add_errors(
     requires { ⌜ (length (now value) ≡ length (now output)) × (length (now output) ≤ row-width) × (length (now errors) ≡ row-width) ⌝ }
     ensures { λ _. ⌜ Filled (length (now (output .entry))) (length (now (output .entry))) (λ p. plus (getD (now (value .entry)) p 0) (times constant (getD (now (errors .entry)) p 0))) (now (output .exit)) ⌝ }
 {
-    if any_of(errors, ROW_WIDTH) == 0 {
-        code::planes::copy_value(output, 0, value, 0, value.len());
+    if arrays::is_zero(&errors[..ROW_WIDTH]) {
+        arrays::copy(output, 0, value, 0, value.len());
         return;
     }
     let mut p = 0;

@@ -103,8 +103,8 @@ fn by_difference(
 {
     let count = 2 * t;
     let difference = sums::rows::difference(own, checks, count, w);
-    if sums::rows::is_zero(&difference) {
-        code::planes::copy_value(output, 0, vector, 0, vector.len());
+    if arrays::is_zero(&difference) {
+        arrays::copy(output, 0, vector, 0, vector.len());
         return 0;
     }
     let powers = field::powers();

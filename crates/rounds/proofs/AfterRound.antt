@@ -10,10 +10,11 @@ use native.Mathlib.Omega.{arith}
 use lib.Dec.{eqb}
 use lib.ListN.{getD, take}
 use borrow.Author.Tests.{eq-eqb, ne-eqb}
+use Rattle.arrays.specs.Array.{padded}
 use Rattle.code.specs.Settings.{Settings, settings, settings-refusal, check-count, value-size}
 use Rattle.code.specs.Size.{most-columns, value-room, vector-room}
 use Rattle.code.specs.Vector.{glued}
-use Rattle.code.specs.Entry.{values-in, padded}
+use Rattle.code.specs.Entry.{values-in}
 use Rattle.code.proofs.ValidSettings.{sizes}
 use Rattle.grading.specs.Value.{Vector, Rows}
 use Rattle.counting.specs.Stored.{Stores, Stores-held}

@@ -5,6 +5,7 @@ use mathlib.Core.Bool.{true}
 use mathlib.Core.List.{List, [], _∷_, _++_, map, append-assoc}
 use mathlib.Core.Logic.{inl, inr}
 use mathlib.Core.Option.{some}
+use mathlib.Mathlib.Data.Bool.Basic.{and-intro}
 use Prim.Native.Nat.{ℕ, zero, suc, _+_, _*_, _-_, _≤_}
 use native.Mathlib.Nat.{suc-mul}
 use native.Mathlib.Omega.{arith}
@@ -14,11 +15,11 @@ use borrow.Author.Tests.{eq-eqb, le-ltb}
 use mir.Syntax.{w8}
 use mir.Val.{WT, vint}
 use denote.Array.{arrayVal}
+use Rattle.arrays.specs.Array.{in-front}
 use Rattle.code.specs.Settings.{Settings, settings, settings-refusal, check-count, value-size}
 use Rattle.code.specs.Vector.{is-vector, are-checks, has-checks, cut, glued}
-use Rattle.code.specs.Entry.{values-in, in-front}
+use Rattle.code.specs.Entry.{values-in}
 use Rattle.code.proofs.Lists.Bytes.{Bytes}
-use Rattle.code.proofs.Lists.Tests.{and-both}
 use Rattle.code.proofs.Vectors.Cut.{cut-length, cut-values, value-fits}
 use Rattle.code.proofs.ValidSettings.{values-fit, sizes}
 use Rattle.code.proofs.Vectors.Planes.{vector-of, values-back}
@@ -106,7 +107,7 @@ fine-by s v d c k fine e f g h =
 received-checks : (s : Settings) (x : List ℕ) → check-count s * value-size s ≤ length x → Bytes x → are-checks s (checks-in s x) ≡ true
 unfolding are-checks checks-in values-in
 received-checks s x h b =
-    and-both (eq-eqb _ _ (cut-length (check-count s) (value-size s) x)) (values-back (value-size s) _ (cut-values (check-count s) (value-size s) x h b))
+    and-intro (eq-eqb _ _ (cut-length (check-count s) (value-size s) x)) (values-back (value-size s) _ (cut-values (check-count s) (value-size s) x h b))
 
 -- the row of a frame, whose checks are x
 module _ (n t w size count : ℕ) (vector own x row : List ℕ) (fine : settings-refusal (settings n t w) ≡ 0) (many : size ≡ n * w) (few : count ≡ 2 * t * w)

@@ -15,7 +15,6 @@ use crate::senders;
 use code::sizes::MOST_COLUMNS;
 use code::sizes::VALUE_ROOM;
 use code::sizes::VECTOR_ROOM;
-use counting::lent;
 use counting::table::Table;
 use counting::tally;
 use counting::vector;
@@ -39,8 +38,7 @@ fn heard_at(who: Identity, mine: bool, slot: Slot) -> [u8; VALUE_ROOM]
         return value;
     }
     let frame = slot.bytes;
-    let end = HEADER + who.w as usize;
-    lent::copy(&frame[HEADER..end], &mut value);
+    arrays::copy(&mut value, 0, &frame, HEADER, who.w as usize);
     value
 }
 

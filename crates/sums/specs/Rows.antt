@@ -12,16 +12,6 @@ use Rattle.code.specs.Plane.{summed}
 use Rattle.code.specs.Steps.Lanes.{in-row, lane}
 use Rattle.locator.specs.Errors.{error-sum}
 
--- a number that is 0 only where the first bytes all are, and where it is not 0, a byte that is not
-pub record Any (many any : ℕ) (bytes : List ℕ) : Type 0 where
-  pub none : any ≡ 0 → (k : ℕ) → k < many → getD bytes k 0 ≡ 0
-  pub some : (any ≡ 0 → ⊥) → (k : ℕ) × (getD bytes k 0 ≡ 0 → ⊥)
-
--- whether every byte is 0, and where not, a byte that is not
-unfoldable pub Zeros-as : (answer : Bool) → (bytes : List ℕ) → Type 0
-Zeros-as true bs = (i : ℕ) → getD bs i 0 ≡ 0
-Zeros-as false bs = (i : ℕ) × (getD bs i 0 ≡ 0 → ⊥)
-
 -- two lists of values of so many bytes added into rows, as many as the first number says; every other byte is 0
 pub record Values-added (many size : ℕ) (own checks rows : List ℕ) : Type 0 where
   pub long : length rows ≡ check-rows

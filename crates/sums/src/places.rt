@@ -4,10 +4,10 @@
 ghost use mathlib.Core.Path.{_≡_};
 ghost use Prim.Native.Nat.{_+_, _*_, _≤_, _<_};
 ghost use lib.ListN.{length};
+ghost use Rattle.arrays.specs.Array.{Filled};
 ghost use Rattle.field.specs.Field.{power};
 ghost use Rattle.field.specs.Table.{Powers};
 ghost use Rattle.code.specs.Size.{most-columns, most-checks, most-places, plane-room, row-width};
-ghost use Rattle.code.specs.Steps.Array.{Filled};
 ghost use Rattle.locator.specs.Errors.{place-exponent};
 ghost use Rattle.sums.specs.Places.{Place-powers, Evaluated};
 use code::sizes::MOST_PLACES;

@@ -5,40 +5,19 @@
 ghost use mathlib.Core.Path.{_≡_};
 ghost use Prim.Native.Nat.{_+_, _*_, _≤_};
 ghost use lib.ListN.{length, getD};
+ghost use Rattle.arrays.specs.Array.{Filled, Written};
 ghost use Rattle.field.specs.Field.{plus, power};
 ghost use Rattle.field.specs.Table.{Powers, Logarithms};
 ghost use Rattle.code.specs.Size.{most-columns, most-checks, row-width, check-rows};
-ghost use Rattle.code.specs.Steps.Array.{Filled, Written};
 ghost use Rattle.code.specs.Steps.Lanes.{Products-added};
 ghost use Rattle.code.specs.Polynomial.{root};
 ghost use Rattle.code.specs.Settings.{Settings, check-count};
-ghost use Rattle.sums.specs.Rows.{Any, Zeros-as, Values-added, Root-logarithms, Check-sums, Error-sums, Explained-as};
+ghost use Rattle.sums.specs.Rows.{Values-added, Root-logarithms, Check-sums, Error-sums, Explained-as};
 use crate::places::place_exponent;
 use crate::places::progression;
 use code::sizes::CHECK_ROWS;
 use code::sizes::MOST_CHECKS;
 use code::sizes::ROW_WIDTH;
-
-// The `or` of the first bytes: 0 only where they all are.
-pub fn any_of(bytes: &[u8], many: usize) -> u8
-    requires { ⌜ many ≤ length (now bytes) ⌝ }
-    ensures { λ r. ⌜ Any many r (now (bytes .entry)) ⌝ }
-{
-    let mut any = 0;
-    let mut i = 0;
-    while i < many {
-        any |= bytes[i];
-        i += 1;
-    }
-    any
-}
-
-// Whether every byte is 0.
-pub fn is_zero(bytes: &[u8]) -> bool
-    ensures { λ r. ⌜ Zeros-as r (now (bytes .entry)) ⌝ }
-{
-    any_of(bytes, bytes.len()) == 0
-}
 
 // So many bytes of two lists from a place on, added into the rows.
 fn sum_bytes(a: &[u8], b: &[u8], from: usize, many: usize, rows: &mut [u8; CHECK_ROWS], to: usize)
@@ -107,7 +86,7 @@ fn add_row(row: &[u8], constants: &[u8], sums: &mut [u8])
     requires { ⌜ (length (now row) ≡ row-width) × (row-width * length (now constants) ≤ length (now sums)) ⌝ }
     ensures { λ _. ⌜ Products-added (length (now (constants .entry))) (now (row .entry)) (now (constants .entry)) (now (sums .entry)) (now (sums .exit)) ⌝ }
 {
-    if any_of(row, ROW_WIDTH) == 0 {
+    if arrays::is_zero(&row[..ROW_WIDTH]) {
         return;
     }
     code::lanes::add_products(row, constants, sums);
@@ -174,5 +153,5 @@ pub fn leaves_nothing(
     let mut left = [0u8; CHECK_ROWS];
     let end = ROW_WIDTH * count;
     sum_bytes(sums, &explained, 0, end, &mut left, 0);
-    is_zero(&left[..end])
+    arrays::is_zero(&left[..end])
 }

@@ -8,7 +8,7 @@ use native.Mathlib.Omega.{arith}
 use lib.Dec.{ltb}
 use lib.ListN.{length, drop, length-append}
 use borrow.Author.Tests.{ltb-true, ltb-false}
-use Rattle.code.specs.Entry.{in-front}
+use Rattle.arrays.specs.Array.{in-front}
 use Rattle.record.specs.Record.{Rec}
 use Rattle.record.specs.declared.Column.{Column}
 use Rattle.bench_file.specs.Scenario.{Scenario}

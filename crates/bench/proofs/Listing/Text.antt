@@ -5,11 +5,12 @@ use mathlib.Core.List.{List, [], _∷_, _++_, append-assoc, append-nil}
 use Prim.Native.Nat.{ℕ, _+_, _≤_, _<_}
 use native.Mathlib.Numerals.{add-one}
 use native.Mathlib.Omega.{arith}
-use lib.ListN.{length, set, take, drop, length-append, length-drop, take-append-drop}
+use lib.ListN.{length, getD, set, take, drop, length-append, length-drop, take-append-drop}
 use lib.Seq.{length-take-le, take-at, drop-at, drop-drop, set-split}
-use Rattle.code.specs.Entry.{in-front}
-use Rattle.record.proofs.Front.{front-value}
+use Rattle.arrays.specs.Array.{in-front, Written}
+use Rattle.arrays.proofs.Front.{front-value, written-between}
 use Rattle.bench.specs.Steps.Printing.{put-at, Put}
+use Rattle.arrays.proofs.Written.{from-start}
 
 -- what stands before the place and the text are as long as the place behind
 front-length : (at : ℕ) (text old : List ℕ) → at ≤ length old → length (take at old ++ text) ≡ at + length text
@@ -37,6 +38,12 @@ put-then at a b old h =
 pub put-one : (at byte : ℕ) (old : List ℕ) → at < length old → set old at byte ≡ put-at at (byte ∷ []) old
 unfolding put-at
 put-one at byte old h = set-split old at byte h ∙ ap (λ (k : ℕ). take at old ++ (byte ∷ drop k old)) (sym (add-one at))
+
+pub put-written :
+    (at : ℕ) (text old new : List ℕ) → at + length text ≤ length old → Written at (length text) (λ p. getD text (0 + p) 0) old new →
+    new ≡ put-at at text old
+unfolding put-at
+put-written at text old new h w = written-between at (length text) text old new refl h (from-start text w)
 
 pub put-length : (at : ℕ) (text old : List ℕ) → at + length text ≤ length old → length (put-at at text old) ≡ length old
 unfolding put-at

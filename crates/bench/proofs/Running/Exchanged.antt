@@ -8,9 +8,9 @@ use Prim.Native.Nat.{ℕ, zero, suc, _-_, _≤_}
 use native.Mathlib.Omega.{arith}
 use lib.ListN.{getD}
 use borrow.Author.Tests.{le-leb, le-ltb, eq-eqb}
+use Rattle.arrays.proofs.Bool.{true-not-false}
 use Rattle.code.specs.Settings.{Settings, settings-refusal}
 use Rattle.grading.specs.Value.{Value}
-use Rattle.grading.proofs.Bool.{true-not-false}
 use Rattle.record.specs.Frame.{longest-frame}
 use Rattle.record.specs.Record.{Rec, who-as, opened, is-taken, next-round}
 use Rattle.record.specs.Refusal.{line, open-refusal, record-refusal, round-refusal, room-refusal, unfinished-refusal, close-refusal, send-refusal, ask-refusal}

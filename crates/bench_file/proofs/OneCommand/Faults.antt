@@ -11,8 +11,7 @@ use lib.ListN.{length, getD, take, drop, length-drop}
 use lib.Seq.{getD-drop, drop-drop}
 use borrow.Author.Tests.{eqb-true, leb-true, ltb-false, not-false, eq-eqb, ne-eqb}
 use Rattle.code.specs.Settings.{Settings, settings, value-size, check-count}
-use Rattle.code.proofs.Lists.Tests.{and-split}
-use Rattle.grading.proofs.Bool.{true-not-false}
+use Rattle.arrays.proofs.Bool.{and-split, true-not-false}
 use Rattle.record.specs.Frame.{operand-size}
 use Rattle.record.specs.Refusal.{first-of, blank-refusal}
 use Rattle.bench_file.specs.Scenario.{Scenario}

@@ -8,9 +8,9 @@ use native.Mathlib.Omega.{arith}
 use lib.Dec.{eqb, leb, ltb}
 use lib.ListN.{length, getD, drop}
 use borrow.Author.Tests.{eq-eqb, ne-eqb, ltb-false, lt-ltb, le-ltb}
-use Rattle.code.specs.Settings.{Settings, settings-refusal}
+use Rattle.code.specs.Settings.{Settings, settings-refusal, settings}
+use Rattle.arrays.proofs.Bool.{or-split}
 use Rattle.grading.specs.Value.{is-blank}
-use Rattle.grading.proofs.Bool.{or-false}
 use Rattle.record.specs.Refusal.{line, first-of, blank-refusal}
 use Rattle.record.specs.Record.{is-taken}
 use Rattle.record.proofs.Refusal.{first-of-zero}
@@ -125,7 +125,7 @@ pub group-fits : (bs : List ℕ) → group-refusal bs ≡ 0 → (4 ≤ length bs
 unfolding group-refusal
 group-fits bs e =
     let lines = first-of-zero _ _ e in
-    (ltb-false _ _ (or-false (not (eqb (command-in bs) 1)) _ (line-passed _ 19 0 (omega arith) (lines .0) .0) .1), first-of-zero _ _ (lines .1) .0)
+    (ltb-false _ _ (or-split (not (eqb (command-in bs) 1)) _ (line-passed _ 19 0 (omega arith) (lines .0) .0) .1), first-of-zero _ _ (lines .1) .0)
 
 -- a whole file
 pub parse-long : (bs : List ℕ) → longest-file < length bs → parse-file bs ≡ refused 19

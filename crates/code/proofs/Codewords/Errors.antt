@@ -11,6 +11,7 @@ use native.Mathlib.Nat.{mul-comm, add-mul}
 use lib.Dec.{eqb}
 use lib.ListN.{length}
 use borrow.Author.Tests.{eqb-true}
+use Rattle.arrays.proofs.Bool.{count-le}
 use Rattle.field.specs.Field.{plus, times, power}
 use Rattle.field.proofs.Xor.{plus-self, plus-lt, plus-swap, equal-of-plus-zero}
 use Rattle.field.proofs.Times.{times-lt, zero-times}
@@ -19,7 +20,6 @@ use Rattle.field.proofs.Logarithm.{times-assoc, times-comm, no-zero-divisors, p
 use Rattle.code.specs.Polynomial.{first-exponent, root}
 use Rattle.code.specs.Plane.{summed, differ}
 use Rattle.code.proofs.Lists.Bytes.{Bytes}
-use Rattle.code.proofs.Lists.Tests.{count-le}
 use Rattle.code.proofs.Codewords.Place.{Place, Byte-places, Apart, Different, All-zero, nonzero, apart-append}
 use Rattle.code.proofs.Codewords.PowerSum.{power-sum}
 

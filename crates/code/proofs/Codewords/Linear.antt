@@ -8,6 +8,7 @@ use native.Mathlib.Omega.{arith}
 use lib.Dec.{eqb}
 use lib.ListN.{length}
 use borrow.Author.Tests.{eqb-true, eq-eqb}
+use Rattle.arrays.proofs.Bool.{count-le}
 use Rattle.field.specs.Field.{plus, power}
 use Rattle.field.proofs.Xor.{plus-self, plus-lt, plus-swap}
 use Rattle.field.proofs.Power.{power-lt}
@@ -17,7 +18,6 @@ use Rattle.code.specs.Polynomial.{root, added}
 use Rattle.code.specs.Plane.{summed, syndrome, is-codeword, differ}
 use Rattle.code.specs.Repair.{Near}
 use Rattle.code.proofs.Lists.Bytes.{Bytes}
-use Rattle.code.proofs.Lists.Tests.{count-le}
 use Rattle.code.proofs.Polynomials.Arithmetic.{length-added, bytes-added}
 use Rattle.code.proofs.Codewords.Word.{Shape, word-of, word-back}
 

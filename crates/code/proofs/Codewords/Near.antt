@@ -9,12 +9,12 @@ use native.Mathlib.Omega.{arith}
 use lib.Dec.{eqb}
 use lib.ListN.{length}
 use borrow.Author.Tests.{eqb-true, eq-eqb}
+use Rattle.arrays.proofs.Bool.{count-le-one, count-le}
 use Rattle.field.specs.Field.{plus}
 use Rattle.field.proofs.Xor.{plus-self}
 use Rattle.code.specs.Settings.{Settings, settings-refusal, check-count}
 use Rattle.code.specs.Plane.{is-codeword, differ}
 use Rattle.code.specs.Promise.{One-near}
-use Rattle.code.proofs.Lists.Tests.{count-le-one, count-le}
 use Rattle.code.proofs.Codewords.PowerSum.{few-nonzero}
 use Rattle.code.proofs.ValidSettings.{sizes}
 use Rattle.code.proofs.Codewords.Word.{Word, word-of, word-errors, word-errors-bytes, word-errors-count, word-errors-different, word-errors-sum, equal-of-word-errors-zero}

@@ -8,11 +8,11 @@ use native.Mathlib.Omega.{arith}
 use lib.Dec.{eqb}
 use lib.ListN.{length}
 use borrow.Author.Tests.{eqb-true, eq-eqb}
+use Rattle.arrays.proofs.Bool.{count-le-one, count-le}
 use Rattle.field.specs.Field.{plus, times}
 use Rattle.field.proofs.Xor.{plus-lt, equal-of-plus-zero}
 use Rattle.field.proofs.Times.{times-lt, zero-times}
 use Rattle.field.proofs.Logarithm.{times-comm, no-zero-divisors}
-use Rattle.code.proofs.Lists.Tests.{count-le-one, count-le}
 
 pub record Place : Type 0 where
   pub x : ℕ

@@ -5,10 +5,12 @@ use mathlib.Core.Path.{_≡_, refl, sym, _∙_, ap, ap₂}
 use mathlib.Core.Bool.{Bool, true, _&&_}
 use mathlib.Core.List.{List, _++_}
 use Prim.Native.Nat.{ℕ, zero, suc, _+_, _<_, _≤_}
+use mathlib.Mathlib.Data.Bool.Basic.{and-intro}
 use native.Mathlib.Omega.{arith}
 use lib.Dec.{eqb}
 use lib.ListN.{length}
 use borrow.Author.Tests.{eqb-true, eq-eqb}
+use Rattle.arrays.proofs.Bool.{and-split}
 use Rattle.field.specs.Field.{plus}
 use Rattle.field.proofs.Xor.{plus-swap}
 use Rattle.code.specs.Settings.{Settings, check-count}
@@ -16,7 +18,7 @@ use Rattle.code.specs.Polynomial.{root}
 use Rattle.code.specs.Plane.{syndrome, all-zero-from, byte-list, is-codeword, differ}
 use Rattle.code.proofs.ValidSettings.{Sizes}
 use Rattle.code.proofs.Lists.Bytes.{Bytes, bytes-of, bytes-back}
-use Rattle.code.proofs.Lists.Tests.{and-split, and-both, all-from, all-below-at, all-below-back}
+use Rattle.code.proofs.Lists.Tests.{all-from, all-below-at, all-below-back}
 use Rattle.code.proofs.Codewords.Place.{Place, Byte-places, Different, All-zero, nonzero, byte-places-append, nonzero-append, all-zero-split}
 use Rattle.code.proofs.Codewords.PowerSum.{power-sum, power-sum-append}
 use Rattle.code.proofs.Codewords.Errors.{summed-below, summed-is-below, errors, errors-bytes, errors-sum, errors-different-both, errors-count, equal-of-errors-zero}
@@ -59,8 +61,8 @@ pub word-back : (s : Settings) (bs cs : List ℕ) → Word s bs cs → is-codewo
 unfolding is-codeword
 word-back s bs cs v =
     let shape = v .shape in
-    and-both
-    (and-both (and-both (eq-eqb _ _ (shape .many)) (eq-eqb _ _ (shape .many-checks))) (and-both (bytes-back bs (shape .bytes)) (bytes-back cs (shape .check-bytes))))
+    and-intro
+    (and-intro (and-intro (eq-eqb _ _ (shape .many)) (eq-eqb _ _ (shape .many-checks))) (and-intro (bytes-back bs (shape .bytes)) (bytes-back cs (shape .check-bytes))))
     (syndrome-tests (check-count s) 0 s bs cs ∙ all-below-back (check-count s) (λ k. eqb (syndrome s k bs cs) 0) (λ i h. eq-eqb _ _ (v .roots i h)))
 
 -- a syndrome by sums whose powers fall to zero

@@ -16,7 +16,7 @@ use Rattle.code.specs.Polynomial.{eval, root, generator}
 use Rattle.code.specs.Plane.{is-codeword}
 use Rattle.code.specs.Vector.{plane, cut}
 use Rattle.code.specs.Entry.{values-in, Checks-put}
-use Rattle.code.specs.Steps.Array.{Filled}
+use Rattle.arrays.specs.Array.{Filled}
 use Rattle.code.specs.Steps.Lanes.{in-row, lane, Divided, Loaded, Stored}
 use Rattle.code.proofs.Lists.Bytes.{Bytes, bytes-drop}
 use Rattle.code.proofs.Polynomials.Arithmetic.{eval-ext}

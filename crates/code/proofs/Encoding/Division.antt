@@ -12,6 +12,7 @@ use native.Mathlib.Numerals.{add-one}
 use lib.ListN.{length, getD, take, drop, replicate, List·getD-eq-default, length-drop, length-reverse, length-replicate}
 use lib.Seq.{length-take-le, getD-drop, drop-cons, ext-getD}
 use borrow.Rule.Slice.PartMut.{putMid, same-len-mid}
+use Rattle.arrays.specs.Array.{Filled}
 use Rattle.field.specs.Field.{plus, times, power}
 use Rattle.field.proofs.Xor.{plus-comm, plus-self, plus-zero, zero-plus}
 use Rattle.field.proofs.Times.{times-plus, times-zero, one-times}
@@ -21,7 +22,6 @@ use Rattle.code.specs.Size.{row-width}
 use Rattle.code.specs.Settings.{Settings, settings-refusal, check-count}
 use Rattle.code.specs.Polynomial.{eval, added, scaled, first-exponent, root}
 use Rattle.code.specs.Plane.{syndrome, is-codeword, data-polynomial, check-polynomial}
-use Rattle.code.specs.Steps.Array.{Filled}
 use Rattle.code.specs.Steps.Lanes.{in-row, lane, Products-added, Divided}
 use Rattle.code.proofs.Lists.Bytes.{Bytes, bytes-drop, bytes-reverse}
 use Rattle.code.proofs.Polynomials.Arithmetic.{eval-lt, eval-added, eval-scaled, eval-append, eval-zeros, getD-added, getD-scaled, bytes-scaled, length-added, length-scaled}

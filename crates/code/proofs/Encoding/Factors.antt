@@ -9,6 +9,7 @@ use native.Mathlib.Omega.{arith}
 use native.Mathlib.Decide.{decLt}
 use lib.ListN.{length, getD, set, replicate, length-set, getD-replicate, List·getD-eq-default}
 use lib.Seq.{ext-getD, getD-set-same, getD-set-other}
+use Rattle.arrays.specs.Array.{Filled}
 use Rattle.field.specs.Field.{plus, times, inverse}
 use Rattle.field.proofs.Xor.{plus-self, zero-plus, equal-of-plus-zero}
 use Rattle.field.proofs.Times.{times-lt, times-zero}
@@ -16,7 +17,6 @@ use Rattle.field.proofs.Logarithm.{times-comm, times-left-comm}
 use Rattle.field.proofs.Division.{inverse-lt, times-inverse}
 use Rattle.code.specs.Size.{most-checks, generator-room}
 use Rattle.code.specs.Polynomial.{eval, scaled, root, generator}
-use Rattle.code.specs.Steps.Array.{Filled}
 use Rattle.code.proofs.Lists.Bytes.{Bytes, byte-at}
 use Rattle.code.proofs.Polynomials.Arithmetic.{eval-scaled, getD-scaled, length-scaled}
 use Rattle.code.proofs.Polynomials.Generator.{root-lt, getD-factor, generator-length, generator-bytes, generator-root, generator-constant}

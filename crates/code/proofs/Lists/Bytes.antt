@@ -3,13 +3,14 @@
 use mathlib.Core.Path.{_≡_, refl}
 use mathlib.Core.Bool.{true}
 use mathlib.Core.List.{List, [], _∷_, _++_, reverse, reverse-cons}
+use mathlib.Mathlib.Data.Bool.Basic.{and-intro}
 use Prim.Native.Nat.{ℕ, zero, suc, _<_}
 use native.Mathlib.Omega.{arith}
 use lib.Dec.{ltb}
 use lib.ListN.{getD, take, drop, replicate}
 use borrow.Author.Tests.{ltb-true, lt-ltb}
 use Rattle.code.specs.Plane.{byte-list}
-use Rattle.code.proofs.Lists.Tests.{and-split, and-both}
+use Rattle.arrays.proofs.Bool.{and-split}
 
 abbrev pub Bytes : List ℕ → Type 0
 Bytes [] = Unit {0}
@@ -23,7 +24,7 @@ bytes-of (u ∷ us) e = let both = and-split (ltb u 256) (byte-list us) e in (lt
 pub bytes-back : (us : List ℕ) → Bytes us → byte-list us ≡ true
 unfolding byte-list
 bytes-back [] b = refl
-bytes-back (u ∷ us) b = and-both (lt-ltb u 256 (b .0)) (bytes-back us (b .1))
+bytes-back (u ∷ us) b = and-intro (lt-ltb u 256 (b .0)) (bytes-back us (b .1))
 
 pub byte-at : (us : List ℕ) (k : ℕ) → Bytes us → getD us k 0 < 256
 byte-at [] k b = omega arith

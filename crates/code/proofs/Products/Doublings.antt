@@ -9,11 +9,11 @@ use native.Mathlib.Decide.{decLt}
 use lib.Dec.{eqb}
 use lib.ListN.{length, getD}
 use borrow.Author.Tests.{eq-eqb, ne-eqb}
+use Rattle.arrays.specs.Array.{Written}
 use Rattle.field.specs.Field.{plus, doubled, times, times-from}
 use Rattle.field.proofs.Xor.{plus-assoc, plus-lt, plus-zero}
 use Rattle.field.proofs.Logarithm.{times-one}
 use Rattle.code.specs.Size.{row-width}
-use Rattle.code.specs.Steps.Array.{Written}
 use Rattle.code.specs.Steps.Lanes.{in-row, Multiples, Doublings}
 
 times-from-none : (a b : ℕ) → times-from 0 a b ≡ 0

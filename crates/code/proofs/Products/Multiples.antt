@@ -10,18 +10,16 @@ use Prim.Native.Nat.{ℕ, zero, suc, _+_, _*_, _/_, _%_, _≤_, _<_}
 use native.Mathlib.Omega.{arith}
 use native.Mathlib.Decide.{decLt}
 use lib.Dec.{eqb, eqb→eq}
-use lib.ListN.{length, getD, set, length-set}
-use lib.Seq.{getD-set-same, getD-set-other}
-use borrow.Author.Count.{below-more}
+use lib.ListN.{length, getD}
 use borrow.Author.Tests.{le-ltb}
+use Rattle.arrays.specs.Array.{all-zero, Written}
+use Rattle.arrays.proofs.Zeros.{zero-at}
 use Rattle.field.specs.Field.{plus, xor-from, doubled, times, times-from}
 use Rattle.field.proofs.Test.{below}
 use Rattle.field.proofs.Xor.{plus-assoc, plus-lt}
 use Rattle.field.proofs.Times.{doubled-lt, times-plus, times-zero, times-doubled}
 use Rattle.field.proofs.Logarithm.{times-comm, times-assoc, times-one}
-use Rattle.code.proofs.Written.{all-zero, zero-at}
 use Rattle.code.specs.Size.{row-width, multiple-rows}
-use Rattle.code.specs.Steps.Array.{Written}
 use Rattle.code.specs.Steps.Lanes.{in-row, Multiples, Products-added}
 
 pub doubled-byte : (a : ℕ) → doubled a < 256
@@ -57,34 +55,16 @@ times-halves a c h l =
     ∙ ap (times a) (sixteen-times (c / 16) (omega arith)))
     ∙ sym (times-plus a (c % 16) (16 * (c / 16)) h) ∙ ap (times a) (plus-halves c l)
 
--- row 0 and the first bytes of row 1
-pub record First-bytes (many : ℕ) (f : ℕ → ℕ) (rows : List ℕ) : Type 0 where
-  pub long : length rows ≡ multiple-rows
-  pub zeros : (p : ℕ) → p < row-width → getD rows p 0 ≡ 0
-  pub ones : (p : ℕ) → p < many → getD rows (in-row 1 p) 0 ≡ f p
-  pub fits : (p : ℕ) → p < many → f p < 256
-
-pub first-none : (f : ℕ → ℕ) (rows : List ℕ) → length rows ≡ multiple-rows → all-zero rows ≡ true → First-bytes 0 f rows
-first-none f rows e z = record { long = e; zeros = λ p h. zero-at rows z p; ones = λ p h. absurd (omega arith); fits = λ p h. absurd (omega arith) }
-
-pub first-more :
-    (many v : ℕ) (f : ℕ → ℕ) (rows : List ℕ) → many < row-width → v ≡ f many → f many < 256 → First-bytes many f rows → First-bytes (many + 1) f (set rows (in-row 1 many) v)
-first-more many v f rows h e byte m =
-    record {
-      long = length-set rows (in-row 1 many) v ∙ m .long;
-      zeros = λ p l. getD-set-other rows (in-row 1 many) p v 0 (omega arith) ∙ m .zeros p l;
-      ones =
-          below-more _ many (λ p l. getD-set-other rows (in-row 1 many) (in-row 1 p) v 0 (omega arith) ∙ m .ones p l)
-          (getD-set-same rows (in-row 1 many) v 0 (let g = m .long in omega arith) ∙ e);
-      fits = below-more _ many (m .fits) byte;
-    }
-
-pub first-whole : (many : ℕ) (f : ℕ → ℕ) (rows : List ℕ) → many ≡ row-width → First-bytes many f rows → Multiples 2 f rows
-first-whole many f rows e m = record { long = m .long; row = row }
+-- row 0, which is zeros, and row 1
+pub multiples-first :
+    (f : ℕ → ℕ) (zeros rows : List ℕ) → length zeros ≡ multiple-rows → all-zero zeros ≡ true → ((p : ℕ) → p < row-width → f p < 256) →
+    Written row-width row-width f zeros rows → Multiples 2 f rows
+multiples-first f zeros rows e z byte w = record { long = w .long ∙ e; row = row }
   where
     row : (k p : ℕ) → k < 2 → p < row-width → getD rows (in-row k p) 0 ≡ times (f p) k
-    row zero p h l = ap (λ (i : ℕ). getD rows i 0) (let q : in-row 0 p ≡ p = omega arith in q) ∙ m .zeros p l ∙ sym (times-zero (f p) (m .fits p (omega arith)))
-    row (suc zero) p h l = m .ones p (omega arith) ∙ sym (times-one (f p) (m .fits p (omega arith)))
+    row zero p h l =
+        ap (λ (i : ℕ). getD rows i 0) (let q : in-row 0 p ≡ p = omega arith in q) ∙ w .before p l ∙ zero-at zeros z p ∙ sym (times-zero (f p) (byte p l))
+    row (suc zero) p h l = w .new p l ∙ sym (times-one (f p) (byte p l))
     row (suc (suc k)) p h l = absurd (omega arith)
 
 -- one more row

@@ -11,7 +11,7 @@ use native.Mathlib.Numerals.{add-one}
 use lib.ListN.{length, getD, take, drop, length-drop, take-append-drop}
 use lib.Seq.{getD-take, getD-drop, length-take-le, ext-getD}
 use Rattle.code.specs.Vector.{plane, cut, glued}
-use Rattle.code.specs.Entry.{in-front}
+use Rattle.arrays.specs.Array.{in-front}
 use Rattle.code.proofs.Lists.Bytes.{Bytes, bytes-take, bytes-drop}
 use Rattle.code.proofs.Vectors.Planes.{Values, plane-length}
 

@@ -7,11 +7,11 @@ use Prim.Native.Nat.{ℕ, _+_, _*_, _-_, _≤_, _<_}
 use native.Mathlib.Omega.{arith}
 use native.Mathlib.Decide.{decLt}
 use lib.ListN.{length, getD}
+use Rattle.arrays.specs.Array.{all-zero, Written}
+use Rattle.arrays.proofs.Zeros.{zero-at}
 use Rattle.code.specs.Size.{row-width, place-rows}
-use Rattle.code.specs.Steps.Array.{Written}
 use Rattle.code.specs.Steps.Lanes.{in-row, Loaded, Stored}
 use Rattle.code.proofs.Vectors.Cut.{value-fits, next-value}
-use Rattle.code.proofs.Written.{all-zero, zero-at}
 
 pub loaded-none : (n size : ℕ) (vector bytes : List ℕ) → length bytes ≡ place-rows → all-zero bytes ≡ true → Loaded 0 n size vector bytes
 loaded-none n size vector bytes e z = record { long = e; row = λ i p h l. absurd (omega arith); above = λ i h. zero-at bytes z i }

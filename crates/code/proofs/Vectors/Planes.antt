@@ -4,18 +4,20 @@
 use mathlib.Core.Path.{_≡_, refl, sym, _∙_, ap, ap₂}
 use mathlib.Core.Bool.{Bool, true, _&&_}
 use mathlib.Core.List.{List, [], _∷_}
+use mathlib.Mathlib.Data.Bool.Basic.{and-intro}
 use Prim.Native.Nat.{ℕ, zero, suc, _<_, _≤_}
 use native.Mathlib.Omega.{arith}
 use lib.Dec.{eqb}
 use lib.ListN.{length, getD, drop}
 use lib.Seq.{ext-getD}
 use borrow.Author.Tests.{eqb-true, eq-eqb}
+use Rattle.arrays.proofs.Bool.{and-split, count-le}
 use Rattle.code.specs.Settings.{Settings, settings-refusal, check-count, value-size}
 use Rattle.code.specs.Plane.{is-codeword, byte-list, differ}
 use Rattle.code.specs.Vector.{plane, each-long, is-vector, are-checks, planes-from, has-checks, same, differ-values}
 use Rattle.code.specs.Promise.{Repairs}
 use Rattle.code.proofs.Lists.Bytes.{Bytes, bytes-of, bytes-back, byte-at}
-use Rattle.code.proofs.Lists.Tests.{and-split, and-both, all-from, all-below-at, all-below-back, count-le}
+use Rattle.code.proofs.Lists.Tests.{all-from, all-below-at, all-below-back}
 use Rattle.code.proofs.Codewords.Near.{differ-self, plane-unique}
 
 -- values of so many bytes
@@ -34,7 +36,7 @@ values-of w (v ∷ vs) e =
 pub values-back : (w : ℕ) (vs : List (List ℕ)) → Values w vs → each-long w vs ≡ true
 unfolding each-long
 values-back w [] l = refl
-values-back w (v ∷ vs) l = and-both (and-both (eq-eqb _ _ (l .0)) (bytes-back v (l .1))) (values-back w vs (l .2))
+values-back w (v ∷ vs) l = and-intro (and-intro (eq-eqb _ _ (l .0)) (bytes-back v (l .1))) (values-back w vs (l .2))
 
 -- a vector
 pub record Vector (s : Settings) (vs : List (List ℕ)) : Type 0 where
@@ -49,7 +51,7 @@ vector-of s vs e =
 
 pub vector-back : (s : Settings) (vs : List (List ℕ)) → Vector s vs → is-vector s vs ≡ true
 unfolding is-vector
-vector-back s vs v = and-both (eq-eqb _ _ (v .many)) (values-back (value-size s) vs (v .values))
+vector-back s vs v = and-intro (eq-eqb _ _ (v .many)) (values-back (value-size s) vs (v .values))
 
 -- planes
 pub plane-length : (p : ℕ) (vs : List (List ℕ)) → length (plane p vs) ≡ length vs
@@ -97,7 +99,7 @@ checked-of s vs cs e =
 pub checked-back : (s : Settings) (vs cs : List (List ℕ)) → Checked s vs cs → has-checks s vs cs ≡ true
 unfolding has-checks are-checks
 checked-back s vs cs c =
-    and-both (and-both (eq-eqb _ _ (c .many)) (values-back (value-size s) cs (c .values)))
+    and-intro (and-intro (eq-eqb _ _ (c .many)) (values-back (value-size s) cs (c .values)))
     (plane-tests (value-size s) 0 s vs cs ∙ all-below-back (value-size s) (λ p. is-codeword s (plane p vs) (plane p cs)) (c .planes))
 
 -- a vector has at most one list of check values

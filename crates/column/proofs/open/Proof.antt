@@ -1,13 +1,16 @@
 -- `open` meets its contract: refused, the empty record is handed back; else who the column is stands in it, in round one. Assumes
 -- nothing.
-use mathlib.Core.Path.{sym, _∙_, ap}
+use mathlib.Core.Path.{refl, sym, _∙_, ap}
 use mathlib.Core.List.{List}
-use Prim.Native.Nat.{ℕ}
+use Prim.Native.Nat.{ℕ, _≤_}
 use native.Mathlib.Omega.{arith}
+use lib.ListN.{length}
 use borrow.Author.Needs.{needs}
+use Rattle.arrays.specs.Array.{padded}
+use Rattle.arrays.proofs.Front.{copied}
 use Rattle.code.specs.Settings.{settings}
-use Rattle.code.specs.Entry.{padded}
 use Rattle.code.proofs.ValidSettings.{sizes}
+use Rattle.code.specs.Size.{value-room}
 use Rattle.record.specs.Stored.{identity, no-column, opened-column}
 use Rattle.record.specs.declared.Identity.{Identity}
 use Rattle.record.specs.declared.Column.{Column}
@@ -36,12 +39,15 @@ start c = c .before .before .before .before
 opens : (c : tie.Then1) → Opens (settings (start c .args .n) (start c .args .t) (start c .args .w)) (start c .args .number) (start c .args .own .now)
 opens c = opens-of _ _ _ (sym (c .before .open-refusal .ensures) ∙ c .if1 .taken)
 
+own-fits : (c : tie.Then1) → length (start c .args .own .now) ≤ value-room
+unfolding settings
+own-fits c = omega (arith, opens c .size, sizes _ (opens c .fine))
+
 slice-aggregate-copy : tie.Need-slice-aggregate-copy
 slice-aggregate-copy c = search needs
 
 copy-requires : tie.Need-copy-requires
-unfolding settings
-copy-requires c κs = omega (arith, opens (c .before) .size, sizes _ (opens (c .before) .fine))
+copy-requires c κs = omega (arith, own-fits (c .before))
 
 -- the empty record with another column in round one
 abbrev begun : Column → Identity → Column
@@ -56,11 +62,11 @@ returns c =
       answered = e .before .open-refusal .ensures;
       done =
           λ z.
-          ap (λ (q : Column). begun q (record { n = a .n; t = a .t; w = a .w; number = a .number; run = a .run; own = c .before .copy .last .1 .0 }))
+          ap (λ (q : Column). begun q (record { n = a .n; t = a .t; w = a .w; number = a .number; run = a .run; own = c .before .copy .last .0 }))
           (e .before .before .empty .ensures)
           ∙ ap
           (λ (bs : List ℕ). begun no-column (record { n = a .n; t = a .t; w = a .w; number = a .number; run = a .run; own = bs }))
-          (c .before .copy .ensures);
+          (copied _ (a .own .now) _ _ refl (own-fits e) (c .before .copy .ensures));
       refused = λ z. absurd (z (e .if1 .taken));
     }
 

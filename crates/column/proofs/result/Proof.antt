@@ -4,11 +4,11 @@ use mathlib.Core.List.{List}
 use Prim.Native.Nat.{ℕ, _≤_}
 use native.Mathlib.Omega.{arith}
 use lib.ListN.{length, take}
-use lib.Seq.{length-take-le}
 use borrow.Author.Needs.{needs}
+use Rattle.arrays.specs.Array.{padded}
+use Rattle.arrays.proofs.Front.{copied-part}
 use Rattle.code.specs.Settings.{Settings, settings, value-size}
 use Rattle.code.specs.Size.{most-columns, value-room, vector-room}
-use Rattle.code.specs.Entry.{padded}
 use Rattle.code.proofs.ValidSettings.{sizes}
 use Rattle.grading.specs.Held.{Held}
 use Rattle.counting.specs.Stored.{Stores-held}
@@ -66,40 +66,27 @@ vector-size-requires c κs = let p = passed (c .before .before .before .before) 
 abbrev else-at : tie.After-vector-size → tie.Else1
 else-at c = c .before .before .before .before .before
 
-array-share-prefix-held : tie.Need-array-share-prefix-held
-array-share-prefix-held c = omega (arith, passed (else-at c))
-
 slice-aggregate-copy : tie.Need-slice-aggregate-copy
-slice-aggregate-copy c = let p = passed (else-at (c .before)) in sym (length-take-le _ _ (omega (arith, p)))
+slice-aggregate-copy c = search needs
 
 slice-aggregate-copy-2 : tie.Need-slice-aggregate-copy-2
-slice-aggregate-copy-2 c = search needs
+slice-aggregate-copy-2 c = let p = passed (else-at (c .before .before)) in sym (p .values-long)
 
 copy-requires : tie.Need-copy-requires
-copy-requires c κs =
-    let size = c .before .before in
-    let p = passed (else-at size) in
-    omega (arith, p, length-take-le (size .vector-size .result) (start (else-at size) .args .column .found .values) (omega (arith, p)))
+copy-requires c κs = let p = passed (else-at (c .before .before)) in omega (arith, p)
 
 -- the values copied
 abbrev sized-at : tie.After-copy → tie.After-vector-size
 sized-at c = c .before .before .before
 
-array-share-prefix-held-confidences : tie.Need-array-share-prefix-held-confidences
-array-share-prefix-held-confidences c = omega (arith, passed (else-at (sized-at (c .before))))
-
 slice-aggregate-copy-3 : tie.Need-slice-aggregate-copy-3
-slice-aggregate-copy-3 c = let p = passed (else-at (sized-at (c .before .before))) in sym (length-take-le _ _ (omega (arith, p)))
+slice-aggregate-copy-3 c = search needs
 
 slice-aggregate-copy-4 : tie.Need-slice-aggregate-copy-4
-slice-aggregate-copy-4 c = search needs
+slice-aggregate-copy-4 c = let p = passed (else-at (sized-at (c .before .before .before))) in sym (p .confidences-long)
 
 copy-requires-2 : tie.Need-copy-requires-2
-copy-requires-2 c κs =
-    let e = else-at (sized-at (c .before .before .before)) in
-    let a = start e .args .column in
-    let p = passed e in
-    omega (arith, p, length-take-le (a .who .n) (a .found .confidences) (omega (arith, p)))
+copy-requires-2 c κs = let p = passed (else-at (sized-at (c .before .before .before))) in omega (arith, p)
 
 stores-alike :
     {s : Settings} {hs gs : List Held} {vs us cs ks : List ℕ} → hs ≡ gs → vs ≡ us → cs ≡ ks → Stores-held s gs us ks → Stores-held s hs vs cs
@@ -122,7 +109,9 @@ returns-2 c =
       answered = e .if1 .left ∙ sym (p .asked);
       done =
           λ z.
-          stores-alike held (first .copy .ensures ∙ ap (λ (k : ℕ). padded vector-room (take k (a .found .values))) (size .ensures .0)) (second .copy2 .ensures) stored;
+          stores-alike held
+          (copied-part (size .result) 0 (a .found .values) _ _ (omega (arith, p, size .ensures)) (omega (arith, p, size .ensures)) (first .copy .ensures) ∙ ap (λ (k : ℕ). padded vector-room (take k (a .found .values))) (size .ensures .0))
+          (copied-part (a .who .n) 0 (a .found .confidences) _ _ (omega (arith, p)) (p .few) (second .copy2 .ensures)) stored;
       refused = λ z. absurd (z (e .if1 .left));
     }
 
@@ -134,11 +123,9 @@ result-spec =
     returns
     cast-many
     vector-size-requires
-    array-share-prefix-held
     slice-aggregate-copy
     slice-aggregate-copy-2
     copy-requires
-    array-share-prefix-held-confidences
     slice-aggregate-copy-3
     slice-aggregate-copy-4
     copy-requires-2

@@ -9,6 +9,7 @@ use lib.Seq.{length-take-le}
 use borrow.Author.Needs.{needs}
 use borrow.Author.Tests.{lt-ltb, le-ltb}
 use borrow.Rule.Slice.PartMut.{putMid}
+use Rattle.arrays.proofs.Front.{front-twice}
 use Rattle.code.specs.Settings.{settings, settings-refusal}
 use Rattle.code.specs.Size.{most-columns}
 use Rattle.code.proofs.ValidSettings.{sizes}
@@ -17,7 +18,6 @@ use Rattle.record.specs.Record.{who-as}
 use Rattle.record.specs.Refusal.{first-of, record-refusal, round-refusal, room-refusal}
 use Rattle.record.specs.View.{settings-of, who-in, view}
 use Rattle.record.proofs.Refusal.{line-applies, line-passed, first-of-zero, first-of-here, first-of-next, first-of-last, round-inside, record-settings, record-number, frame-four, send-lines}
-use Rattle.record.proofs.Front.{front-twice}
 use Rattle.column.proofs.Sent.{frame-sent}
 use Rattle.column.proofs.send.Statement.{statement}
 use Rattle.column.proofs.send.Tie as tie
@@ -145,7 +145,7 @@ returns-3 c =
             header (a .column .round) (a .column .who .number) (a .column .who .run) ++ operand,
             frame-sent r operand (omega (arith, long, size-is f)) (p .put-operand .ensures),
             ap (λ (xs : List ℕ). putMid header-size (size - header-size) xs operand) (h .put-header .ensures)
-                ∙ front-twice _ operand (a .buffer .now) (size - header-size) refl long,
+                ∙ front-twice _ operand (a .buffer .now) header-size (size - header-size) refl long,
           );
       refused = λ z. absurd (z refl);
     }

@@ -5,10 +5,10 @@ use mathlib.Core.Bool.{cond}
 use mathlib.Core.List.{List, []}
 use Prim.Native.Nat.{ℕ, _≤_, _<_}
 use lib.ListN.{length, getD}
+use Rattle.arrays.specs.Array.{padded}
 use Rattle.code.specs.Settings.{settings}
 use Rattle.code.specs.Size.{most-columns, value-room}
 use Rattle.code.specs.Vector.{plane, cut}
-use Rattle.code.specs.Entry.{padded}
 use Rattle.grading.specs.Value.{Value, Vector, Rows, is-blank, entries}
 use Rattle.counting.specs.Stored.{Stores-value}
 use Rattle.grading.specs.Count.{found, most}

@@ -5,8 +5,8 @@ use mathlib.Core.Bool.{true}
 use mathlib.Core.List.{List, [], _∷_, map}
 use Prim.Native.Nat.{ℕ}
 use native.Mathlib.Omega.{arith}
+use Rattle.arrays.proofs.Bool.{and-split}
 use Rattle.code.specs.Settings.{Settings, settings}
-use Rattle.code.proofs.Lists.Tests.{and-split}
 use Rattle.grading.specs.Value.{Value}
 use Rattle.record.specs.Record.{Rec, opened}
 use Rattle.column.specs.Call.{Call, Leads}

@@ -10,11 +10,11 @@ use native.Mathlib.Nat.{eq-or-lt-of-le}
 use native.Mathlib.Omega.{arith}
 use lib.Dec.{eqb}
 use lib.ListN.{length, getD, getD-replicate}
+use Rattle.arrays.proofs.Bool.{and-split}
 use Rattle.code.specs.Settings.{Settings, value-size}
 use Rattle.code.specs.Plane.{byte-list}
 use Rattle.code.specs.Vector.{is-vector}
 use Rattle.code.proofs.Lists.Bytes.{Bytes, bytes-of, bytes-drop, bytes-zeros}
-use Rattle.code.proofs.Lists.Tests.{and-split}
 use Rattle.code.proofs.Vectors.Planes.{Values, vector-of, vector-back}
 use Rattle.grading.specs.Value.{Value, Vector, Rows, blank, blanks}
 use Rattle.grading.specs.Count.{agreed-at, agreed-vector}

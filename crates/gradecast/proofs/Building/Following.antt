@@ -10,9 +10,9 @@ use native.Mathlib.Omega.{arith}
 use lib.Dec.{eqb, leb}
 use lib.ListN.{length, replicate, length-replicate}
 use borrow.Author.Tests.{eqb-true, eqb-false}
+use Rattle.arrays.specs.Array.{in-front}
 use Rattle.code.specs.Settings.{Settings, settings, value-size}
 use Rattle.code.specs.Size.{most-columns, vector-room}
-use Rattle.code.specs.Entry.{in-front}
 use Rattle.grading.specs.Value.{Value, Vector, Rows, blank, is-blank}
 use Rattle.grading.specs.Held.{held-as}
 use Rattle.grading.specs.Count.{most, found, held-of, held-at, held-list}

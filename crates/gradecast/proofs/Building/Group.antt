@@ -7,9 +7,9 @@ use mathlib.Core.List.{List, [], _∷_, map}
 use Prim.Native.Nat.{ℕ, suc, _+_, _≤_}
 use native.Mathlib.Omega.{arith}
 use lib.ListN.{length}
+use Rattle.arrays.proofs.Bool.{and-split}
 use Rattle.code.specs.Settings.{Settings, settings}
 use Rattle.code.specs.Plane.{byte-list}
-use Rattle.code.proofs.Lists.Tests.{and-split}
 use Rattle.record.specs.Record.{Rec, opened}
 use Rattle.record.specs.View.{view}
 use Rattle.record.specs.Stored.{identity, opened-column}

@@ -6,15 +6,16 @@ use Prim.Native.Nat.{ℕ, suc, _<_}
 use native.Mathlib.Omega.{arith}
 use lib.ListN.{length, getD, drop, replicate}
 use lib.Seq.{take-at, drop-at}
+use Rattle.arrays.specs.Array.{in-front, padded}
+use Rattle.arrays.proofs.Padded.{padded-at}
 use Rattle.code.specs.Settings.{Settings, value-size}
 use Rattle.code.specs.Size.{most-columns, vector-room}
 use Rattle.code.specs.Vector.{cut, glued}
-use Rattle.code.specs.Entry.{values-in, in-front, padded}
+use Rattle.code.specs.Entry.{values-in}
 use Rattle.grading.specs.Value.{Vector, entries}
 use Rattle.grading.specs.Held.{Held, held-as, held-in, held-values, held-confidences}
 use Rattle.grading.proofs.Value.{entries-length, entries-of, entries-alike}
 use Rattle.counting.specs.Stored.{Stores, Stores-held}
-use Rattle.counting.proofs.Padded.{padded-at}
 use Rattle.counting.proofs.Placed.{held-values-entries, held-confidences-entries}
 use Rattle.rounds.proofs.Rows.{Sized}
 

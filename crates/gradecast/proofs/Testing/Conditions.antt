@@ -10,9 +10,10 @@ use native.Mathlib.Omega.{arith}
 use lib.Dec.{eqb, ltb, leb}
 use lib.ListN.{length, length-map}
 use borrow.Author.Tests.{eqb-true, eq-eqb, ne-eqb, le-ltb, leb-true}
+use Rattle.arrays.proofs.Bool.{and-split}
 use Rattle.code.specs.Settings.{Settings}
 use Rattle.code.specs.Vector.{same}
-use Rattle.code.proofs.Lists.Tests.{and-split, all-from, all-below-at}
+use Rattle.code.proofs.Lists.Tests.{all-from, all-below-at}
 use Rattle.code.proofs.Vectors.Planes.{same-equal}
 use Rattle.grading.specs.Value.{Value}
 use Rattle.grading.specs.Promise.{all-different}

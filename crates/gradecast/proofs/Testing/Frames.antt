@@ -7,11 +7,10 @@ use Prim.Native.Nat.{ℕ, zero, suc}
 use lib.Dec.{eqb}
 use lib.ListN.{length, take}
 use borrow.Author.Tests.{eqb-true, eq-eqb}
+use Rattle.arrays.proofs.Bool.{and-split, true-not-false}
 use Rattle.code.specs.Vector.{same}
-use Rattle.code.proofs.Lists.Tests.{and-split}
 use Rattle.code.proofs.Codewords.Quick.{quick-checks, checks-quick}
 use Rattle.code.proofs.Vectors.Planes.{same-equal}
-use Rattle.grading.proofs.Bool.{true-not-false}
 use Rattle.record.specs.Frame.{header-size, frame-size, header, operand-in, checks-in}
 use Rattle.record.specs.Record.{Who, Found, Rec}
 use Rattle.column.specs.Call.{Call, taking, sending, closing, asking, Passes, here, later, Operand, Frame-of}

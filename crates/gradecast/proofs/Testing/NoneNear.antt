@@ -9,6 +9,8 @@ use native.Mathlib.Omega.{arith}
 use lib.Dec.{eqb, ltb}
 use lib.ListN.{length, replicate, length-replicate}
 use borrow.Author.Tests.{eqb-true, eqb-false, ltb-true, not-true}
+use Rattle.arrays.proofs.Zeros.{zeros-at}
+use Rattle.arrays.proofs.Bool.{and-split, true-not-false}
 use Rattle.field.specs.Field.{plus, xor-from}
 use Rattle.field.proofs.Times.{zero-times}
 use Rattle.field.proofs.Power.{doublings, power-doublings}
@@ -17,15 +19,13 @@ use Rattle.code.specs.Plane.{syndrome, byte-list}
 use Rattle.code.specs.Vector.{plane}
 use Rattle.code.specs.Repair.{Near, No-repair}
 use Rattle.code.proofs.Lists.Bytes.{bytes-of}
-use Rattle.code.proofs.Lists.Tests.{and-split, all-from, all-below-at}
+use Rattle.code.proofs.Lists.Tests.{all-from, all-below-at}
 use Rattle.code.proofs.Codewords.Word.{Shape}
 use Rattle.code.proofs.Codewords.Quick.{quick-summed, summed-quick}
 use Rattle.locator.specs.Locator.{massey, value}
 use Rattle.locator.specs.Errors.{error-sum, Located, Explained, place-exponent}
 use Rattle.locator.proofs.Decoding.Complete.{near-explained}
 use Rattle.grading.specs.Value.{Vector}
-use Rattle.grading.proofs.Bool.{true-not-false}
-use Rattle.counting.proofs.Padded.{zeros-at}
 
 -- a syndrome
 unfoldable pub quick-sum : Settings → (bytes checks : List ℕ) → (i : ℕ) → ℕ

@@ -8,7 +8,7 @@ use mathlib.Core.Option.{Option}
 use Prim.Native.Nat.{ℕ, zero, suc}
 use lib.Dec.{eqb}
 use borrow.Author.Tests.{eqb-true, eqb-false}
-use Rattle.code.proofs.Lists.Tests.{and-split}
+use Rattle.arrays.proofs.Bool.{and-split}
 use Rattle.grading.specs.Value.{Vector}
 use Rattle.grading.specs.Count.{agreed-vector, held-list}
 use Rattle.record.specs.Record.{Rec, found-as, next-round}

@@ -11,14 +11,14 @@ use native.Mathlib.Omega.{arith}
 use lib.Dec.{eqb, leb}
 use lib.ListN.{getD}
 use borrow.Author.Tests.{leb-true, eq-eqb, ne-eqb}
+use Rattle.arrays.proofs.Bool.{and-split, true-not-false}
 use Rattle.code.specs.Settings.{Settings, settings-refusal}
 use Rattle.code.specs.Vector.{is-vector, differ-values}
 use Rattle.code.specs.Promise.{Repairs}
-use Rattle.code.proofs.Lists.Tests.{and-split, all-from, all-below-at}
+use Rattle.code.proofs.Lists.Tests.{all-from, all-below-at}
 use Rattle.code.proofs.Vectors.Planes.{repairs}
 use Rattle.code.proofs.Codewords.Quick.{quick-checks, checks-quick}
 use Rattle.grading.specs.Value.{Vector, Rows, blanks, entries}
-use Rattle.grading.proofs.Bool.{true-not-false}
 use Rattle.grading.proofs.Value.{entries-length, entries-at}
 use Rattle.record.specs.Frame.{checks-in}
 use Rattle.record.specs.Record.{Rec, counted}

@@ -7,6 +7,7 @@ use native.Mathlib.Omega.{arith}
 use lib.Dec.{eqb}
 use lib.ListN.{length, getD}
 use borrow.Author.Tests.{eqb-true, eq-eqb}
+use Rattle.arrays.proofs.Bool.{count-le}
 use Rattle.field.specs.Field.{plus, times, power, inverse}
 use Rattle.field.proofs.Xor.{plus-lt, plus-zero, plus-again}
 use Rattle.field.proofs.Times.{times-lt, zero-times}
@@ -16,7 +17,6 @@ use Rattle.code.specs.Polynomial.{first-exponent}
 use Rattle.code.specs.Settings.{Settings, check-count}
 use Rattle.code.specs.Plane.{differ}
 use Rattle.code.proofs.Lists.Bytes.{Bytes}
-use Rattle.code.proofs.Lists.Tests.{count-le}
 use Rattle.code.proofs.Codewords.Place.{Place}
 use Rattle.code.proofs.Codewords.Errors.{errors}
 use Rattle.locator.specs.Errors.{error-byte, mended, wrong-places, place-exponent}

@@ -1,7 +1,7 @@
 -- `empty` meets its contract: it computes. Assumes nothing.
 use mathlib.Core.Path.{refl}
+use Rattle.arrays.specs.Array.{in-front, padded}
 use Rattle.record.specs.Stored.{identity, no-findings, no-column}
-use Rattle.code.specs.Entry.{in-front, padded}
 use Rattle.record.proofs.empty.Statement.{statement}
 use Rattle.record.proofs.empty.Tie as tie
 

@@ -10,10 +10,10 @@ use lib.ListN.{length, getD, take, List·getD-eq-default}
 use lib.Seq.{getD-take, ext-getD, length-take-le}
 use Rattle.code.specs.Size.{most-bad, plane-room, row-width, place-rows}
 use Rattle.code.specs.Settings.{Settings, settings, check-count}
-use Rattle.code.specs.Steps.Array.{Filled}
+use Rattle.arrays.specs.Array.{Filled, all-zero}
 use Rattle.code.specs.Steps.Lanes.{in-row, lane}
 use Rattle.code.proofs.Vectors.Lane.{lane-length, lane-at}
-use Rattle.code.proofs.Written.{all-zero, zero-at}
+use Rattle.arrays.proofs.Zeros.{zero-at}
 use Rattle.locator.specs.Locator.{massey, value}
 use Rattle.locator.specs.Errors.{wrong-places, Located}
 use Rattle.sums.specs.Places.{Place-powers}

@@ -10,6 +10,8 @@ use lib.Dec.{eqb}
 use lib.ListN.{length, getD, set, length-set, List·getD-eq-default}
 use lib.Seq.{getD-set-same, getD-set-other}
 use borrow.Author.Tests.{eq-eqb}
+use Rattle.arrays.specs.Array.{all-zero}
+use Rattle.arrays.proofs.Zeros.{zero-at}
 use Rattle.field.specs.Field.{plus, times, power}
 use Rattle.field.proofs.Xor.{plus-self, plus-zero, zero-plus}
 use Rattle.field.proofs.Times.{times-lt, zero-times}
@@ -17,7 +19,6 @@ use Rattle.code.specs.Size.{row-width, place-rows}
 use Rattle.code.specs.Settings.{Settings, check-count}
 use Rattle.code.specs.Steps.Lanes.{in-row, lane}
 use Rattle.code.proofs.Vectors.Lane.{lane-length, lane-at, lane-is}
-use Rattle.code.proofs.Written.{all-zero, zero-at}
 use Rattle.locator.specs.Errors.{wrong-places, error-sum, Explained, place-exponent}
 use Rattle.locator.specs.Plane.{Single-at}
 use Rattle.repair.specs.Steps.Planes.{plane-sums, Explains}

@@ -3,17 +3,18 @@
 use mathlib.Core.Path.{_≡_, refl, sym, _∙_, ap, ap₂, subst}
 use mathlib.Core.Bool.{true}
 use mathlib.Core.List.{List, [], _∷_}
+use mathlib.Mathlib.Data.Bool.Basic.{and-intro}
 use Prim.Native.Nat.{ℕ, zero, suc, _*_, _≤_}
 use native.Mathlib.Omega.{arith}
 use native.Mathlib.Nat.{suc-mul}
 use lib.ListN.{length, take, drop, length-append}
 use lib.Seq.{take-at, drop-at}
 use borrow.Author.Tests.{eq-eqb}
+use Rattle.arrays.specs.Array.{in-front}
 use Rattle.code.specs.Settings.{settings, settings-refusal, check-count, value-size}
 use Rattle.code.specs.Vector.{is-vector, are-checks, has-checks, cut, glued}
-use Rattle.code.specs.Entry.{values-in, in-front, Checks-put, Checks-says}
+use Rattle.code.specs.Entry.{values-in, Checks-put, Checks-says}
 use Rattle.code.proofs.Lists.Bytes.{Bytes}
-use Rattle.code.proofs.Lists.Tests.{and-both}
 use Rattle.code.proofs.Vectors.Cut.{cut-length, cut-values}
 use Rattle.code.proofs.Encoding.Entry.{checks-given}
 use Rattle.code.proofs.Vectors.Planes.{Values, values-back, vector-back, checked-of}
@@ -52,4 +53,4 @@ is-vector-in n t w vector l b =
 pub are-checks-in : (n t w : ℕ) (checks : List ℕ) → length checks ≡ 2 * t * w → Bytes checks → are-checks (settings n t w) (values-in (settings n t w) (2 * t) checks) ≡ true
 unfolding settings value-size check-count values-in are-checks
 are-checks-in n t w checks l b =
-    and-both (eq-eqb _ _ (cut-length (2 * t) w checks)) (values-back w (cut (2 * t) w checks) (cut-values (2 * t) w checks (omega arith) b))
+    and-intro (eq-eqb _ _ (cut-length (2 * t) w checks)) (values-back w (cut (2 * t) w checks) (cut-values (2 * t) w checks (omega arith) b))

@@ -1,16 +1,17 @@
 -- `by_difference` meets its contract: no difference, a plane that does not decode, or errors that are applied. Assumes nothing.
-use mathlib.Core.Path.{sym}
+use mathlib.Core.Path.{refl, sym, _∙_}
 use Prim.Native.Nat.{_+_, _*_, _≤_}
 use native.Mathlib.Omega.{arith}
 use borrow.Author.Tests.{not-true, not-false}
+use Rattle.arrays.proofs.Zeros.{zero-at}
+use Rattle.arrays.proofs.Front.{copied}
 use Rattle.code.specs.Size.{most-columns, row-width}
 use Rattle.code.specs.Settings.{settings, value-size}
 use Rattle.code.specs.Entry.{values-in}
 use Rattle.code.proofs.Lists.Bytes.{Bytes, bytes-every}
 use Rattle.code.proofs.ValidSettings.{sizes, value-in-row}
 use Rattle.repair.specs.Entry.{none-found}
-use Rattle.repair.proofs.Answer.{some-bad, decoded-long, copied, answer-none, answer-found, answer-same}
-use Rattle.sums.proofs.Zeros.{zeros-of}
+use Rattle.repair.proofs.Answer.{some-bad, decoded-long, answer-none, answer-found, answer-same}
 use borrow.Author.Needs.{needs}
 use Rattle.repair.proofs.by_difference.Statement.{statement}
 use Rattle.repair.proofs.by_difference.Tie as tie
@@ -53,8 +54,8 @@ difference-requires c κs = let s = c .before .before .before .before in let z =
 slice-aggregate-is-zero : tie.Need-slice-aggregate-is-zero
 slice-aggregate-is-zero c = sym (c .before .difference .ensures .long)
 
-copy-value-requires : tie.Need-copy-value-requires
-copy-value-requires c κs = let d = c .before .before .before .before in let l = start d .pre .1 in omega arith
+copy-requires : tie.Need-copy-requires
+copy-requires c κs = let d = c .before .before .before .before in let l = start d .pre .1 in omega arith
 
 returns : tie.Need-returns
 unfolding values-in settings value-size
@@ -67,8 +68,8 @@ returns c =
     let rows = d .difference in
     answer-same (a .n) (a .t) (a .w) (a .vector .now) (a .own .now) (a .checks .now) (rows .result) (s .pre .0) (own-bytes d) (check-bytes d)
     (s .pre .1 .1) (s .pre .1 .2) (rows .ensures) (a .output .now) _ (bounds s .2)
-    (zeros-of _ (rows .result) (zero .is-zero .ensures) (copied-to .before .before .if1 .taken))
-    (s .pre .1 .0) (vector-bytes d) (copied (a .vector .now) (a .output .now) _ (omega (arith, s .pre .1)) (copied-to .copy-value .ensures))
+    (zero-at (rows .result) (sym (zero .is-zero .ensures) ∙ copied-to .before .before .if1 .taken))
+    (s .pre .1 .0) (vector-bytes d) (copied _ (a .vector .now) (a .output .now) _ refl (omega (arith, s .pre .1)) (copied-to .copy .ensures))
 
 slice-aggregate-decode : tie.Need-slice-aggregate-decode
 slice-aggregate-decode c = sym (difference-of (c .before .before .before) .difference .ensures .long)
@@ -84,7 +85,7 @@ decode-requires c κs =
       (
         (
           s .pre .0,
-          some-bad (a .t) (a .w) _ _ (rows .result) _ (g .before .before .before .is-zero .ensures) (g .before .before .if1 .left) (rows .ensures),
+          some-bad (a .t) (a .w) _ _ (rows .result) (sym (g .before .before .before .is-zero .ensures) ∙ g .before .before .if1 .left) (rows .ensures),
           bounds s .2,
           rows .ensures .long,
         ),
@@ -140,7 +141,7 @@ by-difference-spec =
     difference-requires
     slice-aggregate-is-zero
     (λ c κs. search needs)
-    copy-value-requires
+    copy-requires
     (λ c. search needs)
     returns
     (λ c κs. search needs)

@@ -8,6 +8,8 @@ use native.Mathlib.Omega.{arith}
 use native.Mathlib.Numerals.{add-one}
 use lib.ListN.{length, getD, take}
 use lib.Seq.{getD-take, length-take-le}
+use Rattle.arrays.specs.Array.{all-zero}
+use Rattle.arrays.proofs.Zeros.{zero-at}
 use Rattle.field.specs.Field.{plus, times, power}
 use Rattle.field.proofs.Power.{power-lt}
 use Rattle.field.proofs.Logarithm.{times-comm}
@@ -15,7 +17,6 @@ use Rattle.code.specs.Size.{most-places, row-width, place-rows}
 use Rattle.code.specs.Polynomial.{eval}
 use Rattle.code.specs.Steps.Lanes.{in-row, lane, Products-added}
 use Rattle.code.proofs.Polynomials.Arithmetic.{eval-append, eval-single}
-use Rattle.code.proofs.Written.{all-zero, zero-at}
 use Rattle.locator.specs.Locator.{value}
 use Rattle.locator.specs.Errors.{place-exponent}
 use Rattle.sums.specs.Places.{Place-powers, Evaluated}

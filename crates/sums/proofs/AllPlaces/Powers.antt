@@ -9,12 +9,12 @@ use native.Mathlib.Decide.{decLt}
 use native.Mathlib.Nat.{mul-comm, add-mul}
 use lib.ListN.{length, getD, take, drop, length-drop, length-append, List·getD-append}
 use lib.Seq.{length-take-le, length-front, take-at, getD-append-add}
+use Rattle.arrays.specs.Array.{Filled}
 use Rattle.field.specs.Field.{times, power, inverse}
 use Rattle.field.specs.Table.{Logarithms}
 use Rattle.field.proofs.Power.{power-lt, power-nonzero, power-add, power-mul, power-mod, power-past, powers-differ}
 use Rattle.code.specs.Polynomial.{first-exponent, root, Roots}
 use Rattle.code.specs.Size.{most-places}
-use Rattle.code.specs.Steps.Array.{Filled}
 use Rattle.locator.specs.Errors.{place-exponent}
 use Rattle.sums.specs.Places.{Place-powers}
 use Rattle.code.proofs.Lists.Part.{part-long}

@@ -8,13 +8,13 @@ use native.Mathlib.Omega.{arith}
 use native.Mathlib.Nat.{suc-mul, mul-le-mul-right}
 use native.Mathlib.Decide.{decLt}
 use lib.ListN.{length, getD, replicate}
+use Rattle.arrays.specs.Array.{all-zero, Written}
+use Rattle.arrays.proofs.Zeros.{zero-at}
 use Rattle.field.specs.Field.{plus}
 use Rattle.code.specs.Size.{row-width, check-rows}
-use Rattle.code.specs.Steps.Array.{Written}
 use Rattle.code.specs.Polynomial.{added}
 use Rattle.code.specs.Vector.{plane, cut}
 use Rattle.code.specs.Steps.Lanes.{in-row, lane}
-use Rattle.code.proofs.Written.{all-zero, zero-at}
 use Rattle.code.proofs.Polynomials.Arithmetic.{length-added}
 use Rattle.sums.specs.Rows.{Values-added}
 use Rattle.code.proofs.Vectors.Cut.{plane-cut, plane-cut-length}

@@ -7,6 +7,8 @@ use Prim.Native.Nat.{ℕ, zero, suc, _+_, _-_, _<_}
 use native.Mathlib.Omega.{arith}
 use native.Mathlib.Numerals.{add-one}
 use lib.ListN.{length, getD, replicate}
+use Rattle.arrays.specs.Array.{all-zero}
+use Rattle.arrays.proofs.Zeros.{zero-at}
 use Rattle.field.specs.Field.{plus, times, power}
 use Rattle.field.proofs.Xor.{plus-assoc, plus-lt, plus-zero, zero-plus}
 use Rattle.field.proofs.Times.{times-lt, zero-times}
@@ -15,7 +17,6 @@ use Rattle.code.specs.Settings.{Settings, check-count}
 use Rattle.code.specs.Polynomial.{root}
 use Rattle.code.specs.Plane.{summed, syndrome}
 use Rattle.code.specs.Steps.Lanes.{in-row, lane}
-use Rattle.code.proofs.Written.{all-zero, zero-at}
 use Rattle.sums.specs.Rows.{Check-sums}
 use Rattle.sums.proofs.Sums.Terms.{Terms-added}
 use Rattle.code.proofs.Vectors.Lane.{lane-length, lane-more}

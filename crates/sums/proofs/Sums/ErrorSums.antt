@@ -8,21 +8,21 @@ use native.Mathlib.Omega.{arith}
 use native.Mathlib.Decide.{decLt}
 use native.Mathlib.Nat.{mul-comm}
 use native.Mathlib.Numerals.{add-one}
-use lib.ListN.{length, getD, take, replicate, List·getD-eq-default}
+use lib.ListN.{length, getD, take, replicate}
 use lib.Seq.{getD-take, length-take-le}
+use Rattle.arrays.specs.Array.{all-zero, Written}
+use Rattle.arrays.proofs.Zeros.{zero-at, first-zero-at, some-not-zero}
 use Rattle.field.specs.Field.{plus, times, power}
 use Rattle.field.proofs.Xor.{plus-zero}
 use Rattle.field.proofs.Times.{times-lt, zero-times}
 use Rattle.field.proofs.Power.{power-mul}
 use Rattle.code.specs.Size.{row-width, check-rows}
 use Rattle.code.specs.Settings.{Settings, check-count}
-use Rattle.code.specs.Steps.Array.{Written}
 use Rattle.code.specs.Steps.Lanes.{in-row, lane}
-use Rattle.code.proofs.Written.{all-zero, zero-at}
 use Rattle.code.proofs.Vectors.Lane.{lane-length, lane-more, lane-zeros}
 use Rattle.locator.specs.Errors.{place-exponent, error-sum}
 use Rattle.locator.proofs.Errors.Totals.{error-sum-append}
-use Rattle.sums.specs.Rows.{Zeros-as, Error-sums, residue, Explained-as}
+use Rattle.sums.specs.Rows.{Error-sums, residue, Explained-as}
 use Rattle.sums.proofs.Sums.Terms.{Terms-added}
 
 error-sum-zeros : (s : Settings) (i j n : ℕ) → error-sum s i j (replicate n 0) ≡ 0
@@ -72,12 +72,13 @@ module _ (s : Settings) (n count : ℕ) (sums weighted found old left : List ℕ
       from-zero : in-row i p ≡ 0 + (in-row i p)
       from-zero = omega arith
 
-  pub explained : (t : Bool) → row-width * count ≤ length left → Zeros-as t (take (row-width * count) left) → Explained-as t s sums weighted
-  unfolding Zeros-as Explained-as
+  pub explained : (t : Bool) → row-width * count ≤ length left → t ≡ all-zero (take (row-width * count) left) → Explained-as t s sums weighted
+  unfolding Explained-as
   explained true h z = λ i p g l.
-      let k : i < count = omega arith in sym (residue-at i p k l) ∙ sym (getD-take (row-width * count) left (in-row i p) 0 (omega arith)) ∙ z (in-row i p)
-  explained false h (m, other) =
-      let b : m < row-width * count = inside (decLt m (row-width * count)) in
+      let k : i < count = omega arith in sym (residue-at i p k l) ∙ first-zero-at (row-width * count) left (sym z) (in-row i p) (omega arith)
+  explained false h z =
+      let (m, inside, other) = some-not-zero (take (row-width * count) left) (sym z) in
+      let b : m < row-width * count = omega (arith, length-take-le (row-width * count) left h) in
       let at : m ≡ in-row (m / row-width) (m % row-width) = omega arith in (
         m / row-width,
         m % row-width,
@@ -87,10 +88,6 @@ module _ (s : Settings) (n count : ℕ) (sums weighted found old left : List ℕ
             other
             (getD-take (row-width * count) left m 0 b ∙ ap (λ (k : ℕ). getD left k 0) at ∙ residue-at (m / row-width) (m % row-width) (omega arith) (omega arith) ∙ z),
       )
-    where
-      inside : Dec (m < row-width * count) → m < row-width * count
-      inside (yes b) = b
-      inside (no b) = absurd (other (List·getD-eq-default (take (row-width * count) left) 0 (omega (arith, length-take-le (row-width * count) left h))))
 
 -- what the answer tells of a plane: every sum, or in a plane in use, not every sum
 module _ (s : Settings) (sums weighted : List ℕ) where

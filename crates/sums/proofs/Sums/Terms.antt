@@ -5,11 +5,11 @@ use Prim.Native.Nat.{ℕ, _+_, _*_, _-_, _≤_, _<_}
 use native.Mathlib.Omega.{arith}
 use lib.ListN.{length, getD, take, drop}
 use lib.Seq.{length-take-le, length-front, take-at, getD-take, getD-drop}
+use Rattle.arrays.specs.Array.{Filled}
 use Rattle.field.specs.Field.{plus, times}
 use Rattle.field.proofs.Xor.{plus-zero}
 use Rattle.field.proofs.Times.{zero-times}
 use Rattle.code.specs.Size.{row-width}
-use Rattle.code.specs.Steps.Array.{Filled}
 use Rattle.code.proofs.Lists.Part.{part-long}
 use Rattle.code.specs.Steps.Lanes.{in-row, Products-added}
 

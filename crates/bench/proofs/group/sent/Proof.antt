@@ -2,10 +2,10 @@
 use mathlib.Core.Path.{_∙_, ap}
 use borrow.Author.Needs.{needs}
 use lib.ListN.{take}
+use Rattle.arrays.proofs.Front.{front-value}
 use Rattle.record.specs.Record.{who-as}
 use Rattle.record.specs.View.{settings-of, who-in, view}
 use Rattle.column.specs.Call.{Frame-of}
-use Rattle.record.proofs.Front.{front-value}
 use Rattle.record.specs.Frame.{frame-size}
 use Rattle.bench.specs.Steps.Running.{frame-bytes, Sends}
 use Rattle.bench.proofs.group.sent.Statement.{statement}

@@ -5,16 +5,17 @@ use borrow.Author.Needs.{needs}
 use lib.ListN.{length}
 use Rattle.bench.proofs.Listing.Text.{put-alike}
 use Rattle.bench.proofs.Listing.Wording.{blank-text, filled-text}
+use Rattle.grading.proofs.Value.{all-zero-blank}
 use Rattle.bench.proofs.lines.put_value.Statement.{statement}
 use Rattle.bench.proofs.lines.put_value.Tie as tie
 
-is-blank-requires : tie.Need-is-blank-requires
-is-blank-requires c κs = search needs
+is-zero-requires : tie.Need-is-zero-requires
+is-zero-requires c κs = search needs
 
 put-byte-requires : tie.Need-put-byte-requires
 put-byte-requires c κs =
     let s = c .before .before .before .before .before in
-    omega (arith, s .pre, ap length (blank-text (s .args .value .now) (sym (c .before .before .is-blank .ensures) ∙ c .before .if1 .taken)))
+    omega (arith, s .pre, ap length (blank-text (s .args .value .now) (sym (c .before .before .is-zero .ensures ∙ all-zero-blank (s .args .value .now)) ∙ c .before .if1 .taken)))
 
 same-length : tie.Need-same-length
 same-length c = search needs
@@ -22,12 +23,13 @@ same-length c = search needs
 returns : tie.Need-returns
 returns c =
     let d = c .before .before .before .before in
-    put-alike (sym (blank-text _ (sym (d .before .is-blank .ensures) ∙ d .if1 .taken))) (c .before .before .put-byte .ensures)
+    let value = d .before .before .before .before .args .value .now in
+    put-alike (sym (blank-text value (sym (d .before .is-zero .ensures ∙ all-zero-blank value) ∙ d .if1 .taken))) (c .before .before .put-byte .ensures)
 
 put-joined-requires : tie.Need-put-joined-requires
 put-joined-requires c κs =
     let s = c .before .before .before .before .before in
-    omega (arith, s .pre, ap length (filled-text (s .args .value .now) (sym (c .before .before .is-blank .ensures) ∙ c .before .if1 .left)))
+    omega (arith, s .pre, ap length (filled-text (s .args .value .now) (sym (c .before .before .is-zero .ensures ∙ all-zero-blank (s .args .value .now)) ∙ c .before .if1 .left)))
 
 same-length-2 : tie.Need-same-length-2
 same-length-2 c = search needs
@@ -35,13 +37,14 @@ same-length-2 c = search needs
 returns-2 : tie.Need-returns-2
 returns-2 c =
     let d = c .before .before .before .before in
-    put-alike (sym (filled-text _ (sym (d .before .is-blank .ensures) ∙ d .if1 .left))) (c .before .before .put-joined .ensures)
+    let value = d .before .before .before .before .args .value .now in
+    put-alike (sym (filled-text value (sym (d .before .is-zero .ensures ∙ all-zero-blank value) ∙ d .if1 .left))) (c .before .before .put-joined .ensures)
 
 pub put-value-spec : {M : Type 1} → statement M
 put-value-spec =
     tie.close
     (tie.spec
-    is-blank-requires
+    is-zero-requires
     put-byte-requires
     same-length
     returns

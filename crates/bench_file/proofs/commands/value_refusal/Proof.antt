@@ -7,6 +7,7 @@ use borrow.Author.Tests.{eq-eqb, ne-eqb}
 use borrow.Author.Needs.{needs}
 use Rattle.record.specs.Refusal.{line, blank-refusal}
 use Rattle.bench_file.specs.Steps.CommandAt.{value-fault}
+use Rattle.grading.proofs.Value.{all-zero-blank}
 use Rattle.bench_file.proofs.commands.value_refusal.Statement.{statement}
 use Rattle.bench_file.proofs.commands.value_refusal.Tie as tie
 
@@ -20,27 +21,27 @@ add-start c = search needs
 add-end : tie.Need-add-end
 add-end c = search needs
 
-sub-is-blank : tie.Need-sub-is-blank
-sub-is-blank c = search needs
+sub-is-zero : tie.Need-sub-is-zero
+sub-is-zero c = search needs
 
-part-is-blank-start : tie.Need-part-is-blank-start
-part-is-blank-start c = search needs
+part-is-zero-start : tie.Need-part-is-zero-start
+part-is-zero-start c = search needs
 
-part-is-blank-end : tie.Need-part-is-blank-end
-part-is-blank-end c = omega (arith, c .before .before .pre .2 (c .if1 .left))
+part-is-zero-end : tie.Need-part-is-zero-end
+part-is-zero-end c = omega (arith, c .before .before .pre .2 (c .if1 .left))
 
-is-blank-requires : tie.Need-is-blank-requires
-is-blank-requires c κs = search needs
+is-zero-requires : tie.Need-is-zero-requires
+is-zero-requires c κs = search needs
 
 -- the value's bytes
 own :
-    (c : tie.After-is-blank) →
-    let a = c .before .before .before .before .args in value-fault (a .file .now) (a .at) (a .command) (a .w) ≡ cond (c .is-blank .result) 6 0
+    (c : tie.After-is-zero) →
+    let a = c .before .before .before .before .args in value-fault (a .file .now) (a .at) (a .command) (a .w) ≡ cond (c .is-zero .result) 6 0
 unfolding value-fault blank-refusal line
 own c =
     let left = c .before .before in let a = left .before .before .args in
     let size : a .at + 2 + a .w - (a .at + 2) ≡ a .w = omega arith in
-    simp (eq-eqb (a .command) 4 (left .if1 .left), c .is-blank .ensures, size)
+    simp (eq-eqb (a .command) 4 (left .if1 .left), c .is-zero .ensures ∙ all-zero-blank _, size)
 
 returns-2 : tie.Need-returns-2
 returns-2 c = sym (own (c .before) ∙ simp (c .if2 .taken))
@@ -55,9 +56,9 @@ value-refusal-spec =
     returns
     add-start
     add-end
-    sub-is-blank
-    part-is-blank-start
-    part-is-blank-end
-    is-blank-requires
+    sub-is-zero
+    part-is-zero-start
+    part-is-zero-end
+    is-zero-requires
     returns-2
     returns-3)

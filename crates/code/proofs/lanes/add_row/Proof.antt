@@ -4,11 +4,11 @@ use Prim.Native.Nat.{_+_, _*_, _-_, _≤_}
 use native.Mathlib.Omega.{arith}
 use lib.ListN.{getD}
 use borrow.Author.Needs.{needs}
+use Rattle.arrays.specs.Array.{Written}
+use Rattle.arrays.proofs.Written.{written-none, written-more, written-to}
 use Rattle.field.specs.Field.{plus}
 use Rattle.code.specs.Steps.Lanes.{in-row}
 use Rattle.code.specs.Size.{row-width}
-use Rattle.code.specs.Steps.Array.{Written}
-use Rattle.code.proofs.Written.{written-none, written-more, written-to}
 use Rattle.code.proofs.lanes.add_row.Statement.{statement}
 use Rattle.code.proofs.lanes.add_row.Tie as tie
 

@@ -5,26 +5,29 @@ use native.Mathlib.Omega.{arith}
 use lib.ListN.{getD}
 use borrow.Author.Needs.{needs}
 use Rattle.field.specs.Field.{doubled}
+use Rattle.arrays.specs.Array.{Written}
+use Rattle.arrays.proofs.Written.{written-none, written-more, written-to}
 use Rattle.code.specs.Steps.Lanes.{in-row}
 use Rattle.code.specs.Size.{row-width}
-use Rattle.code.proofs.Products.Multiples.{First-bytes, first-none, first-more, first-whole, doubled-byte}
+use Rattle.code.proofs.Products.Multiples.{doubled-byte, multiples-first}
 use Rattle.code.proofs.lanes.sixteenth_rows.Statement.{statement}
 use Rattle.code.proofs.lanes.sixteenth_rows.Tie as tie
 
 abbrev Inv-loop : tie.InvT-loop
-Inv-loop low rows₀ p₀ rows p = (p ≤ row-width) × First-bytes p (λ q. doubled (getD low (in-row 8 q) 0)) rows
+Inv-loop low rows₀ p₀ rows p = (p ≤ row-width) × Written row-width p (λ q. doubled (getD low (in-row 8 q) 0)) rows₀ rows
 
 abbrev μ-loop : tie.MeasureT-loop
 μ-loop low rows₀ p₀ rows p = row-width - p
 
 loop-holds : tie.Need-loop-holds Inv-loop μ-loop
-loop-holds c = (omega arith, first-none _ _ refl refl)
+loop-holds c = (omega arith, written-none _ _ _)
 
 loop-again : tie.Need-loop-again Inv-loop μ-loop
-loop-again c = (omega arith, first-more _ _ _ _ (omega arith) (c .double .ensures) (doubled-byte _) (c .before .before .before .loop .inv .1))
+loop-again c = (omega arith, written-more _ _ _ _ _ _ (c .before .before .before .loop .inv .1) (omega arith) (c .double .ensures))
 
 returns : tie.Need-returns Inv-loop μ-loop
-returns c = first-whole _ _ _ (let e : c .before .loop .p ≡ row-width = omega arith in e) (c .before .loop .inv .1)
+returns c =
+    multiples-first _ _ _ refl refl (λ p h. doubled-byte _) (written-to (let e : c .before .loop .p ≡ row-width = omega arith in e) (c .before .loop .inv .1))
 
 pub sixteenth-rows-spec : {M : Type 1} → statement M
 sixteenth-rows-spec =

@@ -17,18 +17,18 @@ abbrev μ-loop : tie.MeasureT-loop
 loop-holds : tie.Need-loop-holds Inv-loop μ-loop
 loop-holds c = (omega arith, loaded-none _ _ _ _ refl refl)
 
-mul-copy-value-2 : tie.Need-mul-copy-value-2 Inv-loop μ-loop
-mul-copy-value-2 c = let a = c .before .before .before .before .args in start-fits _ (a .n) (a .size) (omega arith) (omega arith)
+mul-copy-2 : tie.Need-mul-copy-2 Inv-loop μ-loop
+mul-copy-2 c = let a = c .before .before .before .before .args in start-fits _ (a .n) (a .size) (omega arith) (omega arith)
 
-copy-value-requires : tie.Need-copy-value-requires Inv-loop μ-loop
-copy-value-requires c κs =
+copy-requires : tie.Need-copy-requires Inv-loop μ-loop
+copy-requires c κs =
     let a = c .before .before .before .before in
     (omega (arith, c .before .before .loop .inv .1 .long), value-ends _ (a .args .n) (a .args .size) _ (omega arith) (a .pre .2))
 
 loop-again : tie.Need-loop-again Inv-loop μ-loop
 loop-again c =
     let l = c .before .before .before .before in
-    (omega arith, loaded-more _ _ _ _ _ _ (l .before .before .pre .1) (l .loop .inv .1) (c .before .copy-value .ensures))
+    (omega arith, loaded-more _ _ _ _ _ _ (l .before .before .pre .1) (l .loop .inv .1) (c .before .copy .ensures))
 
 returns : tie.Need-returns Inv-loop μ-loop
 returns c = loaded-to (let e : c .before .loop .i ≡ _ = omega arith in e) (c .before .loop .inv .1)
@@ -44,8 +44,8 @@ load-spec =
     (λ c. omega arith)
     (λ c. omega arith)
     (λ c. omega arith)
-    mul-copy-value-2
-    copy-value-requires
+    mul-copy-2
+    copy-requires
     (λ c. omega arith)
     (λ c. omega arith)
     loop-again

@@ -17,20 +17,20 @@ abbrev μ-loop : tie.MeasureT-loop
 loop-holds : tie.Need-loop-holds Inv-loop μ-loop
 loop-holds c = (omega arith, stored-none _ _ _ _ _)
 
-mul-copy-value : tie.Need-mul-copy-value Inv-loop μ-loop
-mul-copy-value c =
+mul-copy : tie.Need-mul-copy Inv-loop μ-loop
+mul-copy c =
     let a = c .before .before .before .before .before .args in
     omega (arith, value-fits (c .before .before .loop .c) (a .count) (a .size) (omega arith))
 
-copy-value-requires : tie.Need-copy-value-requires Inv-loop μ-loop
-copy-value-requires c κs =
+copy-requires : tie.Need-copy-requires Inv-loop μ-loop
+copy-requires c κs =
     let a = c .before .before .before .before .before .args in
     omega (arith, value-fits (c .before .before .loop .c) (a .count) (a .size) (omega arith), c .before .before .loop .inv .1 .long)
 
 loop-again : tie.Need-loop-again Inv-loop μ-loop
 loop-again c =
     let l = c .before .before .before .before .before in
-    (omega arith, stored-more _ _ _ _ _ _ _ _ (l .loop .inv .1) (c .before .before .copy-value .ensures))
+    (omega arith, stored-more _ _ _ _ _ _ _ _ (l .loop .inv .1) (c .before .before .copy .ensures))
 
 same-length : tie.Need-same-length Inv-loop μ-loop
 same-length c = c .before .loop .inv .1 .long
@@ -45,12 +45,12 @@ store-spec =
     Inv-loop
     μ-loop
     loop-holds
-    mul-copy-value
+    mul-copy
     (λ c. omega arith)
     (λ c. omega arith)
     (λ c. omega arith)
     (λ c. omega arith)
-    copy-value-requires
+    copy-requires
     (λ c. omega arith)
     (λ c. omega arith)
     loop-again

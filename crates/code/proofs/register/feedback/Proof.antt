@@ -4,10 +4,10 @@ use Prim.Native.Nat.{_+_, _-_, _≤_}
 use native.Mathlib.Omega.{arith}
 use lib.ListN.{getD}
 use borrow.Author.Needs.{needs}
+use Rattle.arrays.specs.Array.{Filled}
+use Rattle.arrays.proofs.Written.{filled-none, filled-more, filled-to}
 use Rattle.field.specs.Field.{times, inverse}
 use Rattle.code.specs.Size.{most-checks}
-use Rattle.code.specs.Steps.Array.{Filled}
-use Rattle.code.proofs.Written.{filled-none, filled-more, filled-to}
 use Rattle.code.proofs.register.feedback.Statement.{statement}
 use Rattle.code.proofs.register.feedback.Tie as tie
 

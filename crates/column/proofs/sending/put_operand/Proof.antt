@@ -1,11 +1,12 @@
 -- `put_operand` meets its contract, round by round: the own value copied, the checks of V, the checks of Y. Assumes nothing.
-use mathlib.Core.Path.{_≡_, sym, _∙_}
+use mathlib.Core.Path.{_≡_, _∙_}
 use Prim.Native.Nat.{_*_, _≤_}
 use native.Mathlib.Omega.{arith}
 use lib.ListN.{length, take}
 use lib.Seq.{length-take-le}
 use borrow.Author.Needs.{needs}
 use borrow.Author.Tests.{eq-eqb, ne-eqb}
+use Rattle.arrays.proofs.Front.{copied-part, front-whole}
 use Rattle.code.specs.Settings.{settings, settings-refusal, check-count, value-size}
 use Rattle.code.specs.Size.{value-room}
 use Rattle.code.proofs.ValidSettings.{sizes}
@@ -13,7 +14,6 @@ use Rattle.record.specs.Frame.{operand-size}
 use Rattle.record.specs.Record.{who-as}
 use Rattle.record.specs.View.{settings-of, who-in}
 use Rattle.record.proofs.Refusal.{first-of-zero, round-inside, record-settings}
-use Rattle.record.proofs.Front.{front-whole}
 use Rattle.column.proofs.Sent.{operand-own, operand-checked}
 use Rattle.column.proofs.sending.put_operand.Statement.{statement}
 use Rattle.column.proofs.sending.put_operand.Tie as tie
@@ -52,15 +52,12 @@ start-one c = c .before .before
 cast-size : tie.Need-cast-size
 cast-size c = search needs
 
-array-share-prefix-own : tie.Need-array-share-prefix-own
-array-share-prefix-own c = own-room (start-one (c .before .before))
-
 slice-aggregate-copy : tie.Need-slice-aggregate-copy
-slice-aggregate-copy c = sym (own-long (start-one (c .before .before .before)))
+slice-aggregate-copy c = search needs
 
 copy-requires : tie.Need-copy-requires
 copy-requires c κs =
-    let one = c .before .before .before .before in omega (arith, own-long (start-one one), value-long (start-one one) (one .if1 .taken))
+    let one = c .before .before .before .before in omega (arith, own-room (start-one one), value-long (start-one one) (one .if1 .taken))
 
 same-length : tie.Need-same-length
 same-length c = search needs
@@ -71,8 +68,11 @@ returns c =
     let p = c .before .before in
     let one = p .before .before .before .before .before in
     let s = start-one one in
+    let w = s .args .who .w in
+    let own = s .args .who .own in
     operand-own (s .args .round) (who-in (s .args .who)) _ _ (one .if1 .taken)
-    (p .copy .ensures ∙ front-whole _ _ (omega (arith, own-long s, value-long s (one .if1 .taken))))
+    (copied-part w 0 own _ _ (omega (arith, own-room s)) (omega (arith, value-long s (one .if1 .taken))) (p .copy .ensures)
+    ∙ front-whole (take w own) _ (omega (arith, own-long s, value-long s (one .if1 .taken))))
 
 -- rounds two and three
 abbrev start-else : tie.Else1 → tie.Start
@@ -105,7 +105,6 @@ put-operand-spec =
     tie.close
     (tie.spec
     cast-size
-    array-share-prefix-own
     slice-aggregate-copy
     copy-requires
     same-length

@@ -9,7 +9,7 @@ use Rattle.grading.specs.Value.{blank}
 use Rattle.grading.specs.Count.{most, most-from}
 use Rattle.counting.specs.Steps.Table.{rows-in, Counts}
 use Rattle.grading.proofs.Value.{zeros-blank}
-use Rattle.counting.proofs.Padded.{stores-blank}
+use Rattle.counting.proofs.Stored.{stores-blank}
 use Rattle.counting.proofs.Planes.{rows-none, most-on}
 use Rattle.counting.proofs.table.most_found.Statement.{statement}
 use Rattle.counting.proofs.table.most_found.Tie as tie

@@ -2,12 +2,12 @@
 use mathlib.Core.Path.{_≡_, refl}
 use Prim.Native.Nat.{_-_, _≤_}
 use native.Mathlib.Omega.{arith}
+use Rattle.arrays.specs.Array.{in-front, padded}
 use Rattle.code.specs.Size.{value-room}
-use Rattle.code.specs.Entry.{in-front, padded}
 use Rattle.grading.specs.Value.{entries}
 use Rattle.counting.specs.Steps.Table.{byte-in, value-in}
 use Rattle.grading.proofs.Value.{entries-length}
-use Rattle.counting.proofs.Padded.{padded-entry, stores-value}
+use Rattle.counting.proofs.Stored.{padded-entry, stores-value}
 use Rattle.counting.proofs.table.value_at.Statement.{statement}
 use Rattle.counting.proofs.table.value_at.Tie as tie
 

@@ -5,14 +5,14 @@ use native.Mathlib.Omega.{arith}
 use lib.ListN.{length, take}
 use lib.Seq.{length-take-le}
 use borrow.Author.Needs.{needs}
+use Rattle.arrays.specs.Array.{in-front, padded}
 use Rattle.code.specs.Settings.{settings, value-size}
 use Rattle.code.specs.Size.{most-columns, value-room}
-use Rattle.code.specs.Entry.{in-front, padded}
 use Rattle.code.proofs.ValidSettings.{values-fit}
 use Rattle.grading.specs.Value.{entries}
 use Rattle.grading.specs.Count.{held-at, held-list}
 use Rattle.counting.specs.Steps.Table.{rows-in}
-use Rattle.counting.proofs.Padded.{padded-entry}
+use Rattle.counting.proofs.Stored.{padded-entry}
 use Rattle.counting.proofs.Placed.{Placed, placed-none, placed-more, placed-held}
 use Rattle.counting.proofs.tally.held.Statement.{statement}
 use Rattle.counting.proofs.tally.held.Tie as tie

@@ -4,7 +4,7 @@ use Prim.Native.Nat.{_*_, _/_, _%_}
 use native.Mathlib.Omega.{arith}
 use lib.ListN.{length-set}
 use lib.Seq.{sets-eq}
-use Rattle.code.specs.Entry.{in-front}
+use Rattle.arrays.specs.Array.{in-front}
 use Rattle.record.specs.Frame.{command, header}
 use Rattle.record.proofs.frames.put_header.Statement.{statement}
 use Rattle.record.proofs.frames.put_header.Tie as tie

@@ -9,6 +9,7 @@ use borrow.Author.Tests.{eq-eqb, ne-eqb}
 use Rattle.code.specs.Settings.{settings}
 use Rattle.record.specs.Refusal.{line, first-of, size-refusal, blank-refusal, open-refusal}
 use Rattle.record.proofs.Refusal.{first-of-here, first-of-next, first-of-last, first-of-known}
+use Rattle.grading.proofs.Value.{all-zero-blank}
 use Rattle.record.proofs.refusals.open_refusal.Statement.{statement}
 use Rattle.record.proofs.refusals.open_refusal.Tie as tie
 
@@ -36,16 +37,16 @@ returns-2 c =
     let size : size-refusal (a .w) (a .own .now) ≡ 5 = simp (ne-eqb _ _ (c .if2 .taken)) in
     sym (grouped (c .before .before) ∙ first-of-next _ (c .before .if1 .left) (first-of-here _ size (λ z. omega arith)))
 
-is-blank-requires : tie.Need-is-blank-requires
-is-blank-requires c κs = search needs
+is-zero-requires : tie.Need-is-zero-requires
+is-zero-requires c κs = search needs
 
-valued : (c : tie.After-is-blank) (q : Bool) → c .is-blank .result ≡ q → line 6 q ≡ refusal (c .before .before .before .before .before)
+valued : (c : tie.After-is-zero) (q : Bool) → c .is-zero .result ≡ q → line 6 q ≡ refusal (c .before .before .before .before .before)
 unfolding size-refusal blank-refusal line
 valued c q e =
     let group = c .before .before .before in
     let a = group .before .before .args in
     let size : size-refusal (a .w) (a .own .now) ≡ 0 = simp (eq-eqb _ _ (c .before .if2 .left)) in
-    sym (grouped group ∙ first-of-next _ (c .before .before .if1 .left) (first-of-next _ size (first-of-last _ ∙ ap (line 6) (sym (c .is-blank .ensures) ∙ e))))
+    sym (grouped group ∙ first-of-next _ (c .before .before .if1 .left) (first-of-next _ size (first-of-last _ ∙ ap (line 6) (sym (c .is-zero .ensures ∙ all-zero-blank _) ∙ e))))
 
 returns-3 : tie.Need-returns-3
 unfolding line
@@ -56,4 +57,4 @@ unfolding line
 returns-4 c = valued (c .before) false (c .if3 .left)
 
 pub open-refusal-spec : {M : Type 1} → statement M
-open-refusal-spec = tie.close (tie.spec group-refusal-requires returns returns-2 is-blank-requires returns-3 returns-4)
+open-refusal-spec = tie.close (tie.spec group-refusal-requires returns returns-2 is-zero-requires returns-3 returns-4)

@@ -11,6 +11,7 @@ use Rattle.code.specs.Settings.{settings, value-size}
 use Rattle.code.proofs.ValidSettings.{sizes}
 use Rattle.record.specs.Refusal.{line, blank-refusal, record-refusal, first-of}
 use Rattle.code.specs.Size.{value-room}
+use Rattle.grading.proofs.Value.{all-zero-blank}
 use Rattle.record.specs.Record.{who-as}
 use Rattle.record.specs.View.{settings-of, who-in}
 use Rattle.record.proofs.Refusal.{first-of-zero, first-of-here, first-of-next, first-of-last, first-of-known}
@@ -44,20 +45,20 @@ room c =
 array-share-prefix-own : tie.Need-array-share-prefix-own
 array-share-prefix-own c = room (c .before .before)
 
-slice-aggregate-is-blank : tie.Need-slice-aggregate-is-blank
-slice-aggregate-is-blank c = sym (length-take-le _ _ (room (c .before .before .before)))
+slice-aggregate-is-zero : tie.Need-slice-aggregate-is-zero
+slice-aggregate-is-zero c = sym (length-take-le _ _ (room (c .before .before .before)))
 
-is-blank-requires : tie.Need-is-blank-requires
-is-blank-requires c κs = search needs
+is-zero-requires : tie.Need-is-zero-requires
+is-zero-requires c κs = search needs
 
-abbrev past : tie.After-is-blank → tie.Else1
+abbrev past : tie.After-is-zero → tie.Else1
 past c = c .before .before .before .before
 
-valued : (c : tie.After-is-blank) (q : Bool) → c .is-blank .result ≡ q → line 6 q ≡ record-refusal (who-in (past c .before .before .args .who))
+valued : (c : tie.After-is-zero) (q : Bool) → c .is-zero .result ≡ q → line 6 q ≡ record-refusal (who-in (past c .before .before .args .who))
 unfolding blank-refusal
 valued c q e =
     let group = past c .before in
-    sym (grouped group ∙ first-of-next _ (past c .if1 .left) (first-of-last _ ∙ ap (line 6) (sym (c .is-blank .ensures) ∙ e)))
+    sym (grouped group ∙ first-of-next _ (past c .if1 .left) (first-of-last _ ∙ ap (line 6) (sym (c .is-zero .ensures ∙ all-zero-blank _) ∙ e)))
 
 returns-2 : tie.Need-returns-2
 unfolding line
@@ -75,7 +76,7 @@ record-refusal-spec =
     returns
     cast-size
     array-share-prefix-own
-    slice-aggregate-is-blank
-    is-blank-requires
+    slice-aggregate-is-zero
+    is-zero-requires
     returns-2
     returns-3)

@@ -1,9 +1,10 @@
 -- `filled` meets its contract: the frame in front of zeros. Assumes nothing.
-use mathlib.Core.Path.{ap}
+use mathlib.Core.Path.{refl, ap}
 use mathlib.Core.List.{List}
 use Prim.Native.Nat.{ℕ}
 use borrow.Author.Needs.{needs}
-use Rattle.code.specs.Entry.{padded}
+use Rattle.arrays.specs.Array.{padded}
+use Rattle.arrays.proofs.Front.{copied}
 use Rattle.record.specs.Stored.{frame-slot}
 use Rattle.record.specs.declared.Slot.{Slot}
 use Rattle.record.proofs.slots.filled.Statement.{statement}
@@ -17,7 +18,9 @@ copy-requires c κs = search needs
 
 returns : tie.Need-returns
 unfolding frame-slot padded
-returns c = ap (λ (bs : List ℕ). (let s : Slot = record { taken = 1; bytes = bs } in s)) (c .before .copy .ensures)
+returns c =
+    let s = c .before .before .before .before in
+    ap (λ (bs : List ℕ). (let s : Slot = record { taken = 1; bytes = bs } in s)) (copied _ (s .args .frame .now) _ _ refl (s .pre) (c .before .copy .ensures))
 
 pub filled-spec : {M : Type 1} → statement M
 filled-spec = tie.close (tie.spec slice-aggregate-copy copy-requires returns)

@@ -1,12 +1,16 @@
 -- `add_errors` meets its contract: a value without errors is copied. Assumes nothing.
-use mathlib.Core.Path.{_≡_, refl, _∙_, ap}
+use mathlib.Core.Path.{_≡_, refl, sym, _∙_, ap}
 use Prim.Native.Nat.{_-_, _≤_}
 use native.Mathlib.Omega.{arith}
 use lib.ListN.{length, getD}
+use lib.Seq.{length-take-le}
+use Rattle.arrays.specs.Array.{Filled}
+use Rattle.arrays.proofs.Written.{filled-none, filled-more, filled-to}
+use Rattle.arrays.proofs.Zeros.{first-zero-at}
 use Rattle.field.specs.Field.{plus, times}
-use Rattle.code.specs.Steps.Array.{Filled}
-use Rattle.code.proofs.Written.{filled-none, filled-more, filled-to}
+use Rattle.code.specs.Size.{row-width}
 use Rattle.repair.proofs.ColumnErrors.{value-kept}
+use borrow.Author.Needs.{needs}
 use Rattle.repair.proofs.columns.add_errors.Statement.{statement}
 use Rattle.repair.proofs.columns.add_errors.Tie as tie
 
@@ -16,17 +20,17 @@ Inv-loop powers logarithms constant value errors output₀ p₀ output p = (p �
 abbrev μ-loop : tie.MeasureT-loop
 μ-loop powers logarithms constant value errors output₀ p₀ output p = length output₀ - p
 
-abbrev start : tie.After-any-of Inv-loop μ-loop → tie.Start Inv-loop μ-loop
-start a = a .before .before .before .before
+abbrev start : tie.After-is-zero Inv-loop μ-loop → tie.Start Inv-loop μ-loop
+start a = a .before .before .before .before .before
 
-any-of-requires : tie.Need-any-of-requires Inv-loop μ-loop
-any-of-requires c κs = omega (arith, c .before .before .before .pre .1)
+slice-aggregate-is-zero : tie.Need-slice-aggregate-is-zero Inv-loop μ-loop
+slice-aggregate-is-zero c = let s = c .before .before .before .before in sym (length-take-le row-width (s .args .errors .now) (omega (arith, s .pre .1)))
 
-copy-value-requires : tie.Need-copy-value-requires Inv-loop μ-loop
-copy-value-requires c κs = let p = start (c .before .before) .pre .1 in (omega (arith, p), omega arith)
+copy-requires : tie.Need-copy-requires Inv-loop μ-loop
+copy-requires c κs = let p = start (c .before .before) .pre .1 in (omega (arith, p), omega arith)
 
 same-length : tie.Need-same-length Inv-loop μ-loop
-same-length c = c .before .before .copy-value .ensures .long
+same-length c = c .before .before .copy .ensures .long
 
 returns : tie.Need-returns Inv-loop μ-loop
 returns c =
@@ -34,8 +38,8 @@ returns c =
     let tested = copied .before .before .before in
     let s = start tested in
     value-kept (s .args .constant) (s .args .value .now) (s .args .errors .now) (s .args .output .now) _ (s .fits .constant .fits) (s .pre .1 .0) (s .pre .1 .1)
-    (λ i. tested .before .before .before .shared-slice-known .given i .fits)
-    (tested .any-of .ensures .none (copied .before .before .if1 .taken)) (copied .copy-value .ensures)
+    (λ i. tested .before .before .before .before .shared-slice-known .given i .fits)
+    (first-zero-at row-width (s .args .errors .now) (sym (tested .is-zero .ensures) ∙ copied .before .before .if1 .taken)) (copied .copy .ensures)
 
 loop-holds : tie.Need-loop-holds Inv-loop μ-loop
 loop-holds c = (omega arith, filled-none _ _ (start (c .before) .args .output .now) refl)
@@ -63,8 +67,9 @@ add-errors-spec =
     (tie.spec
     Inv-loop
     μ-loop
-    any-of-requires
-    copy-value-requires
+    slice-aggregate-is-zero
+    (λ c κs. search needs)
+    copy-requires
     same-length
     returns
     loop-holds

@@ -7,11 +7,11 @@ use native.Mathlib.Omega.{arith}
 use native.Mathlib.Nat.{suc-mul}
 use native.Mathlib.Numerals.{add-one}
 use lib.ListN.{length}
+use Rattle.arrays.specs.Array.{Filled}
+use Rattle.arrays.proofs.Written.{filled-none, filled-more, filled-to}
 use Rattle.field.specs.Field.{times, power}
 use Rattle.field.proofs.Power.{power-add, power-past}
 use Rattle.field.proofs.Table.{powers-at}
-use Rattle.code.specs.Steps.Array.{Filled}
-use Rattle.code.proofs.Written.{filled-none, filled-more, filled-to}
 use Rattle.sums.proofs.places.progression.Statement.{statement}
 use Rattle.sums.proofs.places.progression.Tie as tie
 

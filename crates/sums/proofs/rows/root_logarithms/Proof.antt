@@ -4,12 +4,12 @@ use Prim.Native.Nat.{ℕ, _-_, _≤_}
 use native.Mathlib.Omega.{arith}
 use lib.ListN.{getD}
 use borrow.Author.Needs.{needs}
+use Rattle.arrays.specs.Array.{Filled}
+use Rattle.arrays.proofs.Written.{filled-none, filled-more}
 use Rattle.field.specs.Field.{power}
 use Rattle.code.specs.Size.{most-checks}
 use Rattle.code.specs.Polynomial.{root}
-use Rattle.code.specs.Steps.Array.{Filled}
 use Rattle.code.proofs.Polynomials.Generator.{root-lt, root-nonzero}
-use Rattle.code.proofs.Written.{filled-none, filled-more}
 use Rattle.sums.proofs.rows.root_logarithms.Statement.{statement}
 use Rattle.sums.proofs.rows.root_logarithms.Tie as tie
 

@@ -4,13 +4,13 @@ use mathlib.Core.Path.{_≡_, refl, sym, _∙_, ap}
 use Prim.Native.Nat.{ℕ, _*_, _-_, _%_, _≤_, _<_}
 use native.Mathlib.Nat.{mul-le-mul}
 use native.Mathlib.Omega.{arith}
+use Rattle.arrays.specs.Array.{Filled}
+use Rattle.arrays.proofs.Written.{filled-none, filled-more, filled-to}
 use Rattle.field.specs.Field.{power}
 use Rattle.field.proofs.Power.{power-mul, power-mod}
 use Rattle.field.proofs.Table.{powers-at}
 use Rattle.code.specs.Size.{most-checks}
 use Rattle.code.specs.Polynomial.{root}
-use Rattle.code.specs.Steps.Array.{Filled}
-use Rattle.code.proofs.Written.{filled-none, filled-more, filled-to}
 use Rattle.sums.proofs.rows.root_powers.Statement.{statement}
 use Rattle.sums.proofs.rows.root_powers.Tie as tie
 

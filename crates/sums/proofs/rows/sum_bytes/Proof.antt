@@ -4,9 +4,9 @@ use Prim.Native.Nat.{_+_, _-_, _≤_}
 use native.Mathlib.Omega.{arith}
 use lib.ListN.{getD}
 use borrow.Author.Needs.{needs}
+use Rattle.arrays.specs.Array.{Written}
+use Rattle.arrays.proofs.Written.{written-none, written-more, written-to}
 use Rattle.field.specs.Field.{plus}
-use Rattle.code.specs.Steps.Array.{Written}
-use Rattle.code.proofs.Written.{written-none, written-more, written-to}
 use Rattle.sums.proofs.rows.sum_bytes.Statement.{statement}
 use Rattle.sums.proofs.rows.sum_bytes.Tie as tie
 

@@ -1,27 +1,14 @@
 -- A loop that writes bytes one after the other: nothing is written at first, one store writes one more, and the bytes that
--- are not yet reached are the old ones. Once over an array's first bytes, once from any place on. Assumes nothing.
-use mathlib.Core.Path.{_≡_, refl, _∙_, subst}
-use mathlib.Core.Bool.{Bool, true, _&&_}
-use mathlib.Core.List.{List, [], _∷_}
-use Prim.Native.Nat.{ℕ, zero, suc, _+_, _<_}
+-- are not yet reached are the old ones. Once over an array's first bytes, once from any place on; the second at the array's
+-- start says the first. Assumes nothing.
+use mathlib.Core.Path.{_≡_, refl, _∙_, ap, subst}
+use mathlib.Core.List.{List}
+use Prim.Native.Nat.{ℕ, _+_, _<_}
 use native.Mathlib.Omega.{arith}
 use lib.ListN.{length, getD, set, length-set}
-use lib.Dec.{eqb}
-use borrow.Author.Tests.{eqb-true}
 use borrow.Author.Count.{below-more}
 use lib.Seq.{getD-set-same, getD-set-other}
-use Rattle.code.proofs.Lists.Tests.{and-split}
-use Rattle.code.specs.Steps.Array.{Filled, Written}
-
--- an array as it is made, all zero
-abbrev pub all-zero : List ℕ → Bool
-all-zero [] = true
-all-zero (x ∷ xs) = eqb x 0 && all-zero xs
-
-pub zero-at : (xs : List ℕ) → all-zero xs ≡ true → (i : ℕ) → getD xs i 0 ≡ 0
-zero-at [] e i = refl
-zero-at (x ∷ xs) e zero = eqb-true x 0 (and-split (eqb x 0) (all-zero xs) e .0)
-zero-at (x ∷ xs) e (suc i) = zero-at xs (and-split (eqb x 0) (all-zero xs) e .1) i
+use Rattle.arrays.specs.Array.{Filled, Written}
 
 -- an array's first bytes
 pub filled-none : (size : ℕ) (f : ℕ → ℕ) (bytes : List ℕ) → length bytes ≡ size → Filled size 0 f bytes
@@ -63,3 +50,18 @@ written-more at many v f bytes now w h e =
 
 pub written-to : {at many k : ℕ} {f : ℕ → ℕ} {bytes now : List ℕ} → many ≡ k → Written at many f bytes now → Written at k f bytes now
 written-to {at} {many} {k} {f} {bytes} {now} e w = subst (λ (n : ℕ). Written at n f bytes now) e w
+
+pub written-as :
+    {at many : ℕ} {f g : ℕ → ℕ} {bytes now : List ℕ} → ((p : ℕ) → p < many → f p ≡ g p) → Written at many f bytes now → Written at many g bytes now
+written-as e w = record { long = w .long; new = λ p h. w .new p h ∙ e p h; before = w .before; after = w .after }
+
+-- from the start of the other array
+pub from-start :
+    {at many : ℕ} {bytes now : List ℕ} (from : List ℕ) → Written at many (λ p. getD from (0 + p) 0) bytes now →
+    Written at many (λ p. getD from p 0) bytes now
+from-start from w = written-as (λ p h. ap (λ (i : ℕ). getD from i 0) (let e : 0 + p ≡ p = omega arith in e)) w
+
+-- to the start
+pub written-filled : {many : ℕ} {f : ℕ → ℕ} {bytes now : List ℕ} → Written 0 many f bytes now → Filled (length bytes) many f now
+written-filled {many} {f} {bytes} {now} w =
+    record { long = w .long; new = λ p h. ap (λ (i : ℕ). getD now i 0) (let e : p ≡ 0 + p = omega arith in e) ∙ w .new p h }

@@ -2,20 +2,12 @@
 -- array of that length which reads so is one. A loop that puts one byte after the other into zeros makes one. Assumes nothing.
 use mathlib.Core.Path.{_≡_, refl, sym, _∙_, ap}
 use mathlib.Core.List.{List, [], _∷_, _++_}
-use Prim.Native.Nat.{ℕ, zero, suc, _+_, _≤_, _<_}
+use Prim.Native.Nat.{ℕ, zero, suc, _≤_, _<_}
 use native.Mathlib.Omega.{arith}
-use lib.ListN.{length, getD, take, drop, set, replicate, length-append, length-drop, length-replicate}
-use lib.Seq.{drop-cons, getD-drop, set-at, append-snoc, take-at, length-take-le, ext-getD}
-use Rattle.code.specs.Size.{value-room}
-use Rattle.code.specs.Entry.{in-front, padded}
-use Rattle.grading.specs.Value.{Value, entries}
-use Rattle.counting.specs.Stored.{Stores-value}
-use Rattle.grading.proofs.Value.{entries-length, entries-more}
-
-pub zeros-at : (n i : ℕ) → _≡_ {A = ℕ} (getD (replicate n 0) i 0) 0
-zeros-at zero i = refl
-zeros-at (suc n) zero = refl
-zeros-at (suc n) (suc i) = zeros-at n i
+use lib.ListN.{length, getD, drop, set, replicate, length-append, length-drop, length-replicate}
+use lib.Seq.{drop-cons, getD-drop, set-at, append-snoc, ext-getD}
+use Rattle.arrays.specs.Array.{in-front, padded}
+use Rattle.arrays.proofs.Zeros.{zeros-at}
 
 before-zeros : (bs zs : List ℕ) (i : ℕ) → ((j : ℕ) → getD zs j 0 ≡ 0) → getD (bs ++ zs) i 0 ≡ getD bs i 0
 before-zeros [] zs i z = z i
@@ -42,20 +34,3 @@ module _ (room : ℕ) (bs : List ℕ) where
       ∙ ap (λ (zs : List ℕ). set (bs ++ zs) k v) (drop-cons (replicate room 0) k 0 (simp length-replicate h))
       ∙ set-at bs _ _ v k e ∙ sym (append-snoc bs v _)
       ∙ ap (λ (i : ℕ). (bs ++ (v ∷ [])) ++ drop i (replicate room 0)) long
-
--- given entry by entry
-pub padded-entry : (room k v : ℕ) (f : ℕ → ℕ) → k < room → v ≡ f k → set (padded room (entries k 0 f)) k v ≡ padded room (entries (k + 1) 0 f)
-padded-entry room k v f h e = padded-more room (entries k 0 f) k v (entries-length k 0 f) h ∙ rw (e, entries-more k f)
-
--- values
-pub stores-value : (w : ℕ) (v : Value) (array : List ℕ) → length v ≡ w → array ≡ padded value-room v → Stores-value w v array
-unfolding padded in-front
-stores-value w v array size e = record { bytes = e; reads = ap (take w) e ∙ take-at v _ w size }
-
-pub stores-blank : (w : ℕ) → w ≤ value-room → Stores-value w (replicate w 0) (replicate value-room 0)
-stores-blank w h =
-    stores-value w (replicate w 0) (replicate value-room 0) (length-replicate w 0)
-    (padded-of value-room (replicate w 0) (replicate value-room 0) refl (rw length-replicate h) (λ i. zeros-at value-room i ∙ sym (zeros-at w i)))
-
-pub stored-size : (w : ℕ) (v : Value) (array : List ℕ) → length array ≡ value-room → w ≤ value-room → Stores-value w v array → length v ≡ w
-stored-size w v array long h s = ap length (sym (s .reads)) ∙ length-take-le w array (omega arith)
