@@ -13,7 +13,7 @@ use lib.Seq.{getD-take, getD-set-same}
 use Rattle.code.specs.Settings.{Settings}
 use Rattle.record.specs.Frame.{command, operand-size, frame-size, header, command-round, round-in, sender-in, run-in, operand-in}
 use Rattle.record.specs.Record.{Who, Found, Rec, no-frames, taken-at, is-taken, with-frame, with-refused}
-use Rattle.record.specs.Refusal.{line, record-refusal, repeated-refusal, take-refusal, counts-up}
+use Rattle.record.specs.Refusal.{line, record-refusal, repeated-refusal, take-refusal, frame-fault}
 use Rattle.column.specs.Call.{after-take, Operand, Frame-of}
 use Rattle.column.specs.Promise.{Frame-taken}
 use Rattle.record.proofs.Refusal.{Fits, record-number, take-refusal-last}
@@ -124,7 +124,7 @@ taken-stays r (suc k) j x h = set-taken (r .frames) k (j - 1) x h
 -- the record after a frame that is not turned down
 pub after-take-taken : (r : Rec) (k : ℕ) (bs : List ℕ) → take-refusal r k bs ≡ 0 → after-take r k bs ≡ with-frame r k (operand-in bs)
 unfolding after-take
-after-take-taken r k bs e = ap (λ (n : ℕ). cond (eqb n 0) (with-frame r k (operand-in bs)) (cond (counts-up n) (with-refused r k) r)) e
+after-take-taken r k bs e = ap (λ (n : ℕ). cond (eqb n 0) (with-frame r k (operand-in bs)) (cond (frame-fault n) (with-refused r k) r)) e
 
 -- a frame of a round, in a slot that holds none, is not turned down
 pub frame-fresh :

@@ -11,7 +11,7 @@ use Rattle.grading.specs.Value.{Rows}
 use Rattle.grading.specs.Count.{agreed-vector, held-list}
 use Rattle.record.specs.Frame.{operand-in}
 use Rattle.record.specs.Record.{Rec, no-frames, found-as, with-refused, with-frame, next-round}
-use Rattle.record.specs.Refusal.{take-refusal, close-refusal, counts-up}
+use Rattle.record.specs.Refusal.{take-refusal, close-refusal, frame-fault}
 use Rattle.rounds.specs.Exchange.{heard-vector, Table, Closed}
 use Rattle.column.specs.Call.{Call, taking, sending, closing, asking, after-take, After-close, Leads}
 use Rattle.record.proofs.Refusal.{close-round}
@@ -96,7 +96,7 @@ pub data Step (r q : Rec) : Call → Type 0 where
 
 pub after-take-refused : (r : Rec) (k : ℕ) (bs : List ℕ) → (take-refusal r k bs ≡ 0 → ⊥) → Unchanged r (after-take r k bs)
 unfolding after-take
-after-take-refused r k bs h = go (eqb (take-refusal r k bs) 0) (counts-up (take-refusal r k bs)) refl
+after-take-refused r k bs h = go (eqb (take-refusal r k bs) 0) (frame-fault (take-refusal r k bs)) refl
   where
     go : (b d : Bool) → eqb (take-refusal r k bs) 0 ≡ b → Unchanged r (cond b (with-frame r k (operand-in bs)) (cond d (with-refused r k) r))
     go true d e = absurd (h (eqb-true _ _ e))

@@ -6,7 +6,7 @@ use Prim.Native.Nat.{ℕ}
 use lib.Dec.{eqb}
 use borrow.Author.Tests.{ne-eqb, eqb-true, eqb-false}
 use Rattle.record.specs.Record.{raised, with-refused}
-use Rattle.record.specs.Refusal.{take-refusal, counts-up}
+use Rattle.record.specs.Refusal.{take-refusal, frame-fault}
 use Rattle.record.specs.View.{view}
 use Rattle.record.specs.Stored.{with-count, after-refusal}
 use Rattle.record.specs.declared.Column.{Column}
@@ -18,7 +18,7 @@ use Rattle.column.proofs.Frame.{after-take-taken}
 -- a refusal leaves the record as before, but for the count
 pub after-refused : (c : Column) (k a : ℕ) (bs : List ℕ) → a ≡ take-refusal (view c) k bs → (a ≡ 0 → ⊥) → view (after-refusal a c) ≡ after-take (view c) k bs
 unfolding after-take after-refusal
-after-refused c k a bs e h = rw (← e, ne-eqb a 0 h) (go (counts-up a))
+after-refused c k a bs e h = rw (← e, ne-eqb a 0 h) (go (frame-fault a))
   where
     go : (q : Bool) → view (cond q (with-count c (raised (c .refused))) c) ≡ cond q (with-refused (view c) k) (view c)
     go true = view-refused c k

@@ -15,7 +15,7 @@ use Rattle.code.specs.Settings.{Settings, settings-refusal}
 use Rattle.grading.specs.Value.{Value, is-blank}
 use Rattle.record.specs.Frame.{frame-size, round-in, sender-in, run-in}
 use Rattle.record.specs.Record.{Who, Rec, taken-at, is-taken}
-use Rattle.record.specs.Refusal.{line, first-of, number-refusal, size-refusal, blank-refusal, round-refusal, slot-refusal, short-refusal, command-refusal, length-refusal, sender-refusal, run-refusal, other-round-refusal, repeated-refusal, unfinished-refusal, open-refusal, record-refusal, frame-refusal, take-refusal, send-refusal, close-refusal, ask-refusal, room-refusal, counts-up}
+use Rattle.record.specs.Refusal.{line, first-of, number-refusal, size-refusal, blank-refusal, round-refusal, slot-refusal, short-refusal, command-refusal, length-refusal, sender-refusal, run-refusal, other-round-refusal, repeated-refusal, unfinished-refusal, open-refusal, record-refusal, frame-refusal, take-refusal, send-refusal, close-refusal, ask-refusal, room-refusal, frame-fault}
 
 -- a line
 pub line-applies : (m : ℕ) (t : Bool) → t ≡ true → line m t ≡ m
@@ -160,12 +160,12 @@ record-fine w o =
     (first-of-next _ (line-passed 4 _ (inside 1 _ _ (o .low) (o .high))) (first-of-last _ ∙ line-passed 6 _ (o .filled)))
 
 -- the numbers that count
-pub uncounted : (a : ℕ) → a ≤ 8 → counts-up a ≡ false
-unfolding counts-up
+pub uncounted : (a : ℕ) → a ≤ 8 → frame-fault a ≡ false
+unfolding frame-fault
 uncounted a h = simp (lt-leb 9 a (omega arith))
 
-pub counted-up : (a : ℕ) → 9 ≤ a → a ≤ 15 → counts-up a ≡ true
-unfolding counts-up
+pub counted-up : (a : ℕ) → 9 ≤ a → a ≤ 15 → frame-fault a ≡ true
+unfolding frame-fault
 counted-up a h l = simp (le-leb 9 a h, le-leb a 15 l)
 
 settings-low : (s : Settings) → settings-refusal s ≤ 8
@@ -224,7 +224,7 @@ frame-lines s run m k taken bs =
 
 pub frame-counts :
     (s : Settings) (run m k : ℕ) (taken : Bool) (bs : List ℕ) → (frame-refusal s run m k taken bs ≡ 0 → ⊥) →
-    counts-up (frame-refusal s run m k taken bs) ≡ true
+    frame-fault (frame-refusal s run m k taken bs) ≡ true
 frame-counts s run m k taken bs e = let range = frame-lines s run m k taken bs .here e in counted-up _ (range .0) (range .1)
 
 -- a frame of round m, from sender k, of that run

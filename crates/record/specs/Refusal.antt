@@ -111,6 +111,6 @@ close-refusal r = first-of (record-refusal (r .who) ∷ round-refusal (r .round)
 unfoldable pub ask-refusal : Rec → ℕ
 ask-refusal r = first-of (record-refusal (r .who) ∷ unfinished-refusal (r .round) ∷ [])
 
--- the numbers that count as refused frames: 9 to 15
-unfoldable pub counts-up : ℕ → Bool
-counts-up n = leb 9 n && leb n 15
+-- the refusals that are the frame's fault, which are counted: 9 to 15
+unfoldable pub frame-fault : ℕ → Bool
+frame-fault n = leb 9 n && leb n 15

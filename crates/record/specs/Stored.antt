@@ -11,7 +11,7 @@ use Rattle.code.specs.Vector.{glued}
 use Rattle.grading.specs.Held.{held-values, held-confidences}
 use Rattle.record.specs.Frame.{longest-frame}
 use Rattle.record.specs.Record.{Found, raised}
-use Rattle.record.specs.Refusal.{counts-up}
+use Rattle.record.specs.Refusal.{frame-fault}
 use Rattle.record.specs.declared.Identity.{Identity}
 use Rattle.record.specs.declared.Slot.{Slot}
 use Rattle.record.specs.declared.Findings.{Findings}
@@ -54,7 +54,7 @@ with-count c k = record { who = c .who; slots = c .slots; found = c .found; roun
 
 -- a column after a refusal: as before, but for the count under 9 to 15
 unfoldable pub after-refusal : (answer : ℕ) → Column → Column
-after-refusal a c = cond (counts-up a) (with-count c (raised (c .refused))) c
+after-refusal a c = cond (frame-fault a) (with-count c (raised (c .refused))) c
 
 -- what a closing writes of what is found then: V in round one, Y in two, values and confidences in three; every other array is as before
 unfoldable pub found-now : (round : ℕ) → (before : Findings) → (now : Found) → Findings

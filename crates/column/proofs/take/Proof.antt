@@ -12,7 +12,7 @@ use Rattle.code.specs.Size.{most-columns}
 use Rattle.code.proofs.ValidSettings.{sizes}
 use Rattle.record.specs.Frame.{longest-frame}
 use Rattle.record.specs.Record.{raised, who-as}
-use Rattle.record.specs.Refusal.{first-of, record-refusal, round-refusal, slot-refusal, frame-refusal, take-refusal, counts-up}
+use Rattle.record.specs.Refusal.{first-of, record-refusal, round-refusal, slot-refusal, frame-refusal, take-refusal, frame-fault}
 use Rattle.record.specs.View.{settings-of, who-in, view}
 use Rattle.record.specs.Stored.{with-slot, with-count, after-refusal}
 use Rattle.record.specs.declared.Slot.{Slot}
@@ -24,11 +24,11 @@ use Rattle.column.proofs.take.Statement.{statement}
 use Rattle.column.proofs.take.Tie as tie
 
 -- a refusal that does not count, and one that does
-kept : (a : ℕ) (c : Column) → counts-up a ≡ false → c ≡ after-refusal a c
+kept : (a : ℕ) (c : Column) → frame-fault a ≡ false → c ≡ after-refusal a c
 unfolding after-refusal
 kept a c h = rw h refl
 
-counted : (a : ℕ) (c : Column) → counts-up a ≡ true → with-count c (raised (c .refused)) ≡ after-refusal a c
+counted : (a : ℕ) (c : Column) → frame-fault a ≡ true → with-count c (raised (c .refused)) ≡ after-refusal a c
 unfolding after-refusal
 counted a c h = rw h refl
 
@@ -121,7 +121,7 @@ returns-2 c =
     let f = c .before .before in
     let a = start (else-at f) .args in
     let number = c .before .if2 .left in
-    let counts : counts-up (f .frame-refusal .result) ≡ true = rw (f .frame-refusal .ensures) (frame-counts _ _ _ _ _ _ (λ z. number (f .frame-refusal .ensures ∙ z))) in
+    let counts : frame-fault (f .frame-refusal .result) ≡ true = rw (f .frame-refusal .ensures) (frame-counts _ _ _ _ _ _ (λ z. number (f .frame-refusal .ensures ∙ z))) in
     record {
       answered = frame-answer f;
       done = λ z. absurd (number z);

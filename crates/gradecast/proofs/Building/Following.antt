@@ -20,7 +20,7 @@ use Rattle.grading.proofs.Value.{blank-size}
 use Rattle.grading.proofs.Most.{most-is}
 use Rattle.counting.specs.Stored.{Stores-held}
 use Rattle.record.specs.Record.{Rec, who-as, found-as, next-round}
-use Rattle.record.specs.Refusal.{take-refusal, send-refusal, close-refusal, ask-refusal, counts-up}
+use Rattle.record.specs.Refusal.{take-refusal, send-refusal, close-refusal, ask-refusal, frame-fault}
 use Rattle.rounds.specs.Exchange.{Table, Closed}
 use Rattle.column.specs.Call.{Call, taking, sending, closing, asking, After-close, Leads, Run, no-call, one-call, Passes, here, later, Frame-of}
 use Rattle.record.specs.View.{settings-of, who-in, found-in, view}
@@ -68,7 +68,7 @@ take-built c k bs stored = go (eqb (take-refusal (view c) k bs) 0) refl
     go false f = (
       after-refusal (take-refusal (view c) k bs) c,
       record { answered = refl; done = λ z. absurd (eqb-false _ _ f z); refused = λ z. refl },
-      counted-stored (counts-up (take-refusal (view c) k bs)) _,
+      counted-stored (frame-fault (take-refusal (view c) k bs)) _,
     )
 
 -- asking

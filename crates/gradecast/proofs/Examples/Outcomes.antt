@@ -22,7 +22,7 @@ use Rattle.grading.specs.Count.{found as times-found, better-by, better, next-b
 use Rattle.grading.specs.Promise.{member, all-different}
 use Rattle.record.specs.Frame.{command, operand-size, frame-size, header, command-round, round-in, sender-in, run-in, operand-in, checks-in}
 use Rattle.record.specs.Record.{Found, who-as, found-as, no-frames, opened, taken-at, is-taken, counted, refused-at, raised as count-raised, with-refused, with-frame, next-round}
-use Rattle.record.specs.Refusal.{line, first-of, number-refusal, size-refusal, blank-refusal, round-refusal, slot-refusal, short-refusal, command-refusal, length-refusal, sender-refusal, run-refusal, other-round-refusal, repeated-refusal, room-refusal, unfinished-refusal, frame-refusal, open-refusal, record-refusal, take-refusal, send-refusal, close-refusal, ask-refusal, counts-up}
+use Rattle.record.specs.Refusal.{line, first-of, number-refusal, size-refusal, blank-refusal, round-refusal, slot-refusal, short-refusal, command-refusal, length-refusal, sender-refusal, run-refusal, other-round-refusal, repeated-refusal, room-refusal, unfinished-refusal, frame-refusal, open-refusal, record-refusal, take-refusal, send-refusal, close-refusal, ask-refusal, frame-fault}
 use Rattle.rounds.specs.Exchange.{value-or-blank, heard-at, heard-vector}
 use Rattle.column.specs.Call.{after-take}
 use Rattle.gradecast.specs.Promise.{numbers}
@@ -88,5 +88,5 @@ unfolding computed printed-outcome rough-outcome printed-says holding printed-sc
     numbers member all-different all-from quick-summed quick-zero-from quick-word quick-planes-from quick-checks massey start changed longer as-long against raised quotient value place-exponent eval added scaled plus xor-from doubled times times-from power inverse doublings
     settings-refusal check-count value-size byte-list plane each-long is-vector are-checks same differ-values cut values-in blank blanks is-blank bytes-before entries held-as times-found better-by better next-best most-from most agreed-least sure-least likely-least agreed-at agreed-vector held-of held-at held-list
     command operand-size frame-size header command-round round-in sender-in run-in operand-in checks-in who-as found-as no-frames opened taken-at is-taken counted refused-at count-raised with-refused with-frame next-round
-    line first-of number-refusal size-refusal blank-refusal round-refusal slot-refusal short-refusal command-refusal length-refusal sender-refusal run-refusal other-round-refusal repeated-refusal room-refusal unfinished-refusal frame-refusal open-refusal record-refusal take-refusal send-refusal close-refusal ask-refusal counts-up value-or-blank heard-at heard-vector after-take
+    line first-of number-refusal size-refusal blank-refusal round-refusal slot-refusal short-refusal command-refusal length-refusal sender-refusal run-refusal other-round-refusal repeated-refusal room-refusal unfinished-refusal frame-refusal open-refusal record-refusal take-refusal send-refusal close-refusal ask-refusal frame-fault value-or-blank heard-at heard-vector after-take
 outcomes = (refl, refl, refl)
