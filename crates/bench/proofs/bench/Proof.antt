@@ -13,15 +13,9 @@ returns : tie.Need-returns
 unfolding listing-room
 returns c = record { short = λ h. (refl, refl); printed = λ h. absurd (omega (arith, h, c .if1 .taken)) }
 
-parse-requires : tie.Need-parse-requires
-parse-requires c κs = search needs
-
 put-refused-requires : tie.Need-put-refused-requires
 unfolding listing-room
 put-refused-requires c κs = let read = c .before .before .before in omega (arith, answer-small _ _ _ _ (read .parse .ensures), read .before .if1 .left)
-
-same-length : tie.Need-same-length
-same-length c = search needs
 
 returns-2 : tie.Need-returns-2
 unfolding listing-room
@@ -49,9 +43,6 @@ put-listing-requires c κs =
     let right = c .before .before .before in
     let s = parsed-located _ _ _ _ (right .before .before .parse .ensures) (right .if2 .left) in ((_, s .0, s .2), omega (arith, right .before .before .before .if1 .left))
 
-same-length-2 : tie.Need-same-length-2
-same-length-2 c = search needs
-
 returns-3 : tie.Need-returns-3
 unfolding listing-room
 returns-3 c =
@@ -70,11 +61,11 @@ bench-spec =
     tie.close
     (tie.spec
     returns
-    parse-requires
+    (λ c κs. search needs)
     put-refused-requires
-    same-length
+    (λ c. search needs)
     returns-2
     run-requires
     put-listing-requires
-    same-length-2
+    (λ c. search needs)
     returns-3)

@@ -17,9 +17,6 @@ use Rattle.column.proofs.Step.{leads-closing, close-refused}
 use Rattle.column.proofs.close.Statement.{statement}
 use Rattle.column.proofs.close.Tie as tie
 
-close-refusal-requires : tie.Need-close-refusal-requires
-close-refusal-requires c κs = search needs
-
 -- the lines of closing
 answer : (c : tie.After-close-refusal) → c .close-refusal .result ≡ close-refusal (view (c .before .before .args .column))
 unfolding close-refusal view
@@ -39,9 +36,6 @@ passed c = sym (answer (c .before)) ∙ c .if1 .taken
 
 found-after-requires : tie.Need-found-after-requires
 found-after-requires c κs = passed c
-
-no-slots-requires : tie.Need-no-slots-requires
-no-slots-requires c κs = search needs
 
 add-column : tie.Need-add-column
 unfolding view
@@ -74,4 +68,4 @@ returns c =
 pub close-spec : {M : Type 1} → statement M
 close-spec =
     tie.close
-    (tie.spec close-refusal-requires found-after-requires no-slots-requires add-column returns returns-2)
+    (tie.spec (λ c κs. search needs) found-after-requires (λ c κs. search needs) add-column returns returns-2)

@@ -9,9 +9,6 @@ use Rattle.record.proofs.Refusal.{close-settings}
 use Rattle.column.proofs.frame_size.Statement.{statement}
 use Rattle.column.proofs.frame_size.Tie as tie
 
-close-refusal-requires : tie.Need-close-refusal-requires
-close-refusal-requires c κs = search needs
-
 answer : (c : tie.After-close-refusal) → c .close-refusal .result ≡ close-refusal (view (c .before .before .args .column))
 unfolding close-refusal view
 answer c = c .close-refusal .ensures
@@ -26,11 +23,8 @@ frame-size-requires : tie.Need-frame-size-requires
 unfolding view who-in who-as
 frame-size-requires c κs = close-settings _ (passed c)
 
-cast-result : tie.Need-cast-result
-cast-result c = search needs
-
 returns-2 : tie.Need-returns-2
 returns-2 c = record { done = λ z. c .frame-size .ensures .0; refused = λ z. absurd (z (passed (c .before))) }
 
 pub frame-size-spec : {M : Type 1} → statement M
-frame-size-spec = tie.close (tie.spec close-refusal-requires returns frame-size-requires cast-result returns-2)
+frame-size-spec = tie.close (tie.spec (λ c κs. search needs) returns frame-size-requires (λ c. search needs) returns-2)

@@ -18,12 +18,6 @@ use Rattle.record.proofs.Refusal.{Opens, opens-of}
 use Rattle.column.proofs.open.Statement.{statement}
 use Rattle.column.proofs.open.Tie as tie
 
-empty-requires : tie.Need-empty-requires
-empty-requires c κs = search needs
-
-open-refusal-requires : tie.Need-open-refusal-requires
-open-refusal-requires c κs = search needs
-
 returns-2 : tie.Need-returns-2
 returns-2 c =
     record {
@@ -42,9 +36,6 @@ opens c = opens-of _ _ _ (sym (c .before .open-refusal .ensures) ∙ c .if1 .tak
 own-fits : (c : tie.Then1) → length (start c .args .own .now) ≤ value-room
 unfolding settings
 own-fits c = omega (arith, opens c .size, sizes _ (opens c .fine))
-
-slice-aggregate-copy : tie.Need-slice-aggregate-copy
-slice-aggregate-copy c = search needs
 
 copy-requires : tie.Need-copy-requires
 copy-requires c κs = omega (arith, own-fits (c .before))
@@ -71,4 +62,4 @@ returns c =
     }
 
 pub open-spec : {M : Type 1} → statement M
-open-spec = tie.close (tie.spec empty-requires open-refusal-requires slice-aggregate-copy copy-requires returns returns-2)
+open-spec = tie.close (tie.spec (λ c κs. search needs) (λ c κs. search needs) (λ c. search needs) copy-requires returns returns-2)

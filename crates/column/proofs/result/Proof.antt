@@ -21,9 +21,6 @@ use Rattle.column.proofs.Asked.{result-stores}
 use Rattle.column.proofs.result.Statement.{statement}
 use Rattle.column.proofs.result.Tie as tie
 
-ask-refusal-requires : tie.Need-ask-refusal-requires
-ask-refusal-requires c κs = search needs
-
 -- the lines of asking
 answer : (c : tie.After-ask-refusal) → c .ask-refusal .result ≡ ask-refusal (view (c .before .before .args .column))
 unfolding ask-refusal view
@@ -56,18 +53,12 @@ passed c =
       confidences-long = search needs;
     }
 
-cast-many : tie.Need-cast-many
-cast-many c = search needs
-
 vector-size-requires : tie.Need-vector-size-requires
 vector-size-requires c κs = let p = passed (c .before .before .before .before) in (p .few, p .short)
 
 -- the record's arrays in hand, and how many of their bytes there are
 abbrev else-at : tie.After-vector-size → tie.Else1
 else-at c = c .before .before .before .before .before
-
-slice-aggregate-copy : tie.Need-slice-aggregate-copy
-slice-aggregate-copy c = search needs
 
 slice-aggregate-copy-2 : tie.Need-slice-aggregate-copy-2
 slice-aggregate-copy-2 c = let p = passed (else-at (c .before .before)) in sym (p .values-long)
@@ -78,9 +69,6 @@ copy-requires c κs = let p = passed (else-at (c .before .before)) in omega (ari
 -- the values copied
 abbrev sized-at : tie.After-copy → tie.After-vector-size
 sized-at c = c .before .before .before
-
-slice-aggregate-copy-3 : tie.Need-slice-aggregate-copy-3
-slice-aggregate-copy-3 c = search needs
 
 slice-aggregate-copy-4 : tie.Need-slice-aggregate-copy-4
 slice-aggregate-copy-4 c = let p = passed (else-at (sized-at (c .before .before .before))) in sym (p .confidences-long)
@@ -119,14 +107,14 @@ pub result-spec : {M : Type 1} → statement M
 result-spec =
     tie.close
     (tie.spec
-    ask-refusal-requires
+    (λ c κs. search needs)
     returns
-    cast-many
+    (λ c. search needs)
     vector-size-requires
-    slice-aggregate-copy
+    (λ c. search needs)
     slice-aggregate-copy-2
     copy-requires
-    slice-aggregate-copy-3
+    (λ c. search needs)
     slice-aggregate-copy-4
     copy-requires-2
     returns-2)

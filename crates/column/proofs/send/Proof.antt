@@ -22,9 +22,6 @@ use Rattle.column.proofs.Sent.{frame-sent}
 use Rattle.column.proofs.send.Statement.{statement}
 use Rattle.column.proofs.send.Tie as tie
 
-close-refusal-requires : tie.Need-close-refusal-requires
-close-refusal-requires c κs = search needs
-
 -- the lines of closing
 abbrev start-at : tie.After-close-refusal → tie.Start
 start-at c = c .before .before .before
@@ -110,9 +107,6 @@ sub-put-operand c = omega (arith, headed (sized-at (header-put c)))
 part-put-operand-start : tie.Need-part-put-operand-start
 part-put-operand-start c = omega (arith, headed (sized-at (header-put c)))
 
-part-put-operand-end : tie.Need-part-put-operand-end
-part-put-operand-end c = search needs
-
 put-operand-requires : tie.Need-put-operand-requires
 unfolding frame-size
 put-operand-requires c κs =
@@ -121,9 +115,6 @@ put-operand-requires c κs =
     let m = headed f in
     let rest : f .frame-size .result - header-size ≡ operand-size (settings-of (a .who)) (a .round) = omega (arith, size-is f) in
     (passed (else-at f) .closes, length-take-le _ _ (simp length-drop (omega (arith, m))) ∙ rest)
-
-same-length : tie.Need-same-length
-same-length c = search needs
 
 returns-3 : tie.Need-returns-3
 unfolding view who-in who-as settings-of frame-size header room-refusal
@@ -154,14 +145,14 @@ pub send-spec : {M : Type 1} → statement M
 send-spec =
     tie.close
     (tie.spec
-    close-refusal-requires
+    (λ c κs. search needs)
     returns
     frame-size-requires
     returns-2
     put-header-requires
     sub-put-operand
     part-put-operand-start
-    part-put-operand-end
+    (λ c. search needs)
     put-operand-requires
-    same-length
+    (λ c. search needs)
     returns-3)

@@ -32,9 +32,6 @@ counted : (a : ℕ) (c : Column) → frame-fault a ≡ true → with-count c (ra
 unfolding after-refusal
 counted a c h = rw h refl
 
-slot-refusal-requires : tie.Need-slot-refusal-requires
-slot-refusal-requires c κs = search needs
-
 -- what the lines before the frame's own give
 early-lines :
     (c : tie.After-slot-refusal) →
@@ -84,12 +81,6 @@ passed c =
 sub-k : tie.Need-sub-k
 sub-k c = omega (arith, passed c)
 
-cast-k : tie.Need-cast-k
-cast-k c = search needs
-
-mul-place : tie.Need-mul-place
-mul-place c = search needs
-
 element-copy-out-place : tie.Need-element-copy-out-place
 element-copy-out-place c = omega (arith, passed c)
 
@@ -111,9 +102,6 @@ frame-answer c =
     ∙ sym (take-lines (view (a .t1)) (a .slot) (a .frame .now) ∙ first-of-next _ (h .early) (first-of-last _)
     ∙ ap (λ (b : Bool). frame-refusal (settings-of (a .t1 .who)) (a .t1 .who .run) (a .t1 .round) (a .slot) b (a .frame .now))
     (slot-taken (a .t1) (a .slot) (record { taken = 0; bytes = [] }) refl (h .low) (h .high)))
-
-raised-requires : tie.Need-raised-requires
-raised-requires c κs = search needs
 
 returns-2 : tie.Need-returns-2
 unfolding with-count
@@ -142,9 +130,6 @@ fits c =
 filled-requires : tie.Need-filled-requires
 filled-requires c κs = fits c
 
-mul-filled : tie.Need-mul-filled
-mul-filled c = search needs
-
 element-set-from-filled : tie.Need-element-set-from-filled
 element-set-from-filled c = omega (arith, passed (else-at (c .before .before)))
 
@@ -167,16 +152,16 @@ pub take-spec : {M : Type 1} → statement M
 take-spec =
     tie.close
     (tie.spec
-    slot-refusal-requires
+    (λ c κs. search needs)
     sub-k
-    cast-k
-    mul-place
+    (λ c. search needs)
+    (λ c. search needs)
     element-copy-out-place
     frame-refusal-requires
     filled-requires
-    mul-filled
+    (λ c. search needs)
     element-set-from-filled
-    raised-requires
+    (λ c κs. search needs)
     returns
     returns-2
     returns-3)

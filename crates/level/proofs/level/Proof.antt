@@ -14,12 +14,6 @@ use Rattle.level.proofs.Asking.{asked-refused, width-refused, asked-siz
 use Rattle.level.proofs.level.Statement.{statement}
 use Rattle.level.proofs.level.Tie as tie
 
-result-requires : tie.Need-result-requires
-result-requires c κs = tt
-
-refused-requires : tie.Need-refused-requires
-refused-requires c κs = tt
-
 returns : tie.Need-returns
 returns c =
     let asked = c .before .before .before in
@@ -40,9 +34,6 @@ module _ (c : tie.Else1) where
   unfolding column view who-in who-as
   columns = asked-sizes (view column) (sym (asked .answered))
 
-refused-requires-2 : tie.Need-refused-requires-2
-refused-requires-2 c κs = tt
-
 returns-2 : tie.Need-returns-2
 unfolding column view who-in who-as settings-of settings
 returns-2 c =
@@ -50,12 +41,6 @@ returns-2 c =
     let says = c .refused2 .ensures in
     let width = width-refused (view (column d)) (sym (asked d .answered)) (c .before .if2 .taken) in
     says-refused (column d) _ _ _ (says .0 ∙ sym width) (λ z. absurd (omega (arith, says .0))) (says .1) (says .2)
-
-cast-n : tie.Need-cast-n
-cast-n c = search needs
-
-cast-dropped : tie.Need-cast-dropped
-cast-dropped c = search needs
 
 -- a column of heights, and what `result` answered of it in hand
 abbrev in-hand : tie.After-confidences → tie.Else2
@@ -80,9 +65,6 @@ add-if3 c = omega (arith, columns (past-asking (in-hand (c .before))))
 sorted : (c : tie.After-ascending) → Sorted-heights (column (past-asking (in-hand (c .before)))) (c .ascending .result .many) (c .ascending .result .heights)
 unfolding column
 sorted c = let d = in-hand (c .before) in sorted-heights _ _ _ _ _ (asked (past-asking d)) (d .if2 .left) (c .ascending .ensures)
-
-refused-requires-3 : tie.Need-refused-requires-3
-refused-requires-3 c κs = tt
 
 returns-3 : tie.Need-returns-3
 unfolding column
@@ -119,17 +101,17 @@ pub level-spec : {M : Type 1} → statement M
 level-spec =
     tie.close
     (tie.spec
-    result-requires
-    refused-requires
+    (λ c κs. tt)
+    (λ c κs. tt)
     returns
-    refused-requires-2
+    (λ c κs. tt)
     returns-2
-    cast-n
-    cast-dropped
+    (λ c. search needs)
+    (λ c. search needs)
     ascending-requires
     mul-if3
     add-if3
-    refused-requires-3
+    (λ c κs. tt)
     returns-3
     middle-requires
     correction-requires

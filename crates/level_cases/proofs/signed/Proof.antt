@@ -6,18 +6,9 @@ use Rattle.level.proofs.Integers.{difference-fits, stored}
 use Rattle.level_cases.proofs.signed.Statement.{statement}
 use Rattle.level_cases.proofs.signed.Tie as tie
 
-cast-number : tie.Need-cast-number
-cast-number c = search needs
-
-returns : tie.Need-returns
-returns c = search needs
-
 sub-result : tie.Need-sub-result
 sub-result c =
     let m = pos (c .before .args .magnitude) in rw (stored m (omega arith)) (difference-fits (pos 0) m (omega arith) (omega arith))
 
-returns-2 : tie.Need-returns-2
-returns-2 c = search needs
-
 pub signed-spec : {M : Type 1} → statement M
-signed-spec = tie.close (tie.spec cast-number returns sub-result returns-2)
+signed-spec = tie.close (tie.spec (λ c. search needs) (λ c. search needs) sub-result (λ c. search needs))

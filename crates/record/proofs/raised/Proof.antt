@@ -10,12 +10,9 @@ returns : tie.Need-returns
 unfolding raised
 returns c = simp (le-ltb (c .before .args .count) 4294967295 (omega arith))
 
-add-result : tie.Need-add-result
-add-result c = omega arith
-
 returns-2 : tie.Need-returns-2
 unfolding raised
 returns-2 c = simp (lt-ltb (c .before .args .count) 4294967295 (omega arith), add-one)
 
 pub raised-spec : {M : Type 1} → statement M
-raised-spec = tie.close (tie.spec returns add-result returns-2)
+raised-spec = tie.close (tie.spec returns (λ c. omega arith) returns-2)

@@ -3,14 +3,8 @@ use borrow.Author.Needs.{needs}
 use Rattle.sajowemi.proofs.sajowemi_check_values.Statement.{statement}
 use Rattle.sajowemi.proofs.sajowemi_check_values.Tie as tie
 
-check-values-requires : tie.Need-check-values-requires
-check-values-requires c κs = search needs
-
-same-length : tie.Need-same-length
-same-length c = search needs
-
 returns : tie.Need-returns
 returns c = c .before .before .check-values .ensures
 
 pub sajowemi-check-values-spec : {M : Type 1} → statement M
-sajowemi-check-values-spec = tie.close (tie.spec check-values-requires same-length returns)
+sajowemi-check-values-spec = tie.close (tie.spec (λ c κs. search needs) (λ c. search needs) returns)

@@ -3,11 +3,8 @@ use borrow.Author.Needs.{needs}
 use Rattle.sajowemi.proofs.sajowemi_open.Statement.{statement}
 use Rattle.sajowemi.proofs.sajowemi_open.Tie as tie
 
-open-requires : tie.Need-open-requires
-open-requires c κs = search needs
-
 returns : tie.Need-returns
 returns c = c .«open» .ensures
 
 pub sajowemi-open-spec : {M : Type 1} → statement M
-sajowemi-open-spec = tie.close (tie.spec open-requires returns)
+sajowemi-open-spec = tie.close (tie.spec (λ c κs. search needs) returns)

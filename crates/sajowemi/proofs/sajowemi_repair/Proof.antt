@@ -3,14 +3,8 @@ use borrow.Author.Needs.{needs}
 use Rattle.sajowemi.proofs.sajowemi_repair.Statement.{statement}
 use Rattle.sajowemi.proofs.sajowemi_repair.Tie as tie
 
-repair-requires : tie.Need-repair-requires
-repair-requires c κs = search needs
-
-same-length : tie.Need-same-length
-same-length c = search needs
-
 returns : tie.Need-returns
 returns c = c .before .before .repair .ensures
 
 pub sajowemi-repair-spec : {M : Type 1} → statement M
-sajowemi-repair-spec = tie.close (tie.spec repair-requires same-length returns)
+sajowemi-repair-spec = tie.close (tie.spec (λ c κs. search needs) (λ c. search needs) returns)

@@ -3,11 +3,8 @@ use borrow.Author.Needs.{needs}
 use Rattle.sajowemi.proofs.sajowemi_take.Statement.{statement}
 use Rattle.sajowemi.proofs.sajowemi_take.Tie as tie
 
-take-requires : tie.Need-take-requires
-take-requires c κs = search needs
-
 returns : tie.Need-returns
 returns c = c .take .ensures
 
 pub sajowemi-take-spec : {M : Type 1} → statement M
-sajowemi-take-spec = tie.close (tie.spec take-requires returns)
+sajowemi-take-spec = tie.close (tie.spec (λ c κs. search needs) returns)

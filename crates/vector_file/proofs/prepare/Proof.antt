@@ -14,29 +14,11 @@ Inv-loop output₀ room i₀ output i = (length output ≡ length output₀) × 
 abbrev μ-loop : tie.MeasureT-loop
 μ-loop output₀ room i₀ output i = length output - i
 
-loop-holds : tie.Need-loop-holds Inv-loop μ-loop
-loop-holds c = omega arith
-
-before-call-requires : tie.Need-before-call-requires Inv-loop μ-loop
-before-call-requires c κs = tt
-
-slice-write-output : tie.Need-slice-write-output Inv-loop μ-loop
-slice-write-output c = omega arith
-
-add-i : tie.Need-add-i Inv-loop μ-loop
-add-i c = omega arith
-
 loop-less : tie.Need-loop-less Inv-loop μ-loop
 loop-less c = simp length-set (omega arith)
 
 loop-again : tie.Need-loop-again Inv-loop μ-loop
 loop-again c = simp length-set (omega arith)
-
-least-requires : tie.Need-least-requires Inv-loop μ-loop
-least-requires c κs = tt
-
-same-length : tie.Need-same-length Inv-loop μ-loop
-same-length c = omega arith
 
 returns : tie.Need-returns Inv-loop μ-loop
 returns c = counts _ _ (omega arith)
@@ -47,12 +29,12 @@ prepare-spec =
     (tie.spec
     Inv-loop
     μ-loop
-    loop-holds
-    before-call-requires
-    slice-write-output
-    add-i
+    (λ c. omega arith)
+    (λ c κs. tt)
+    (λ c. omega arith)
+    (λ c. omega arith)
     loop-less
     loop-again
-    least-requires
-    same-length
+    (λ c κs. tt)
+    (λ c. omega arith)
     returns)

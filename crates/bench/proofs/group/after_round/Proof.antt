@@ -32,29 +32,11 @@ loop-holds : tie.Need-loop-holds Inv-loop μ-loop
 unfolding Places-of
 loop-holds c = (omega arith, omega arith, small _ _ _ (c .before .pre .0 .1) .few-columns, λ f h z run. run)
 
-sub-k : tie.Need-sub-k Inv-loop μ-loop
-sub-k c = omega arith
-
-cast-k : tie.Need-cast-k Inv-loop μ-loop
-cast-k c = omega arith
-
-mul-frame : tie.Need-mul-frame Inv-loop μ-loop
-mul-frame c = omega arith
-
-array-copy-out-frame : tie.Need-array-copy-out-frame Inv-loop μ-loop
-array-copy-out-frame c = omega arith
-
 heard-at-requires : tie.Need-heard-at-requires Inv-loop μ-loop
 heard-at-requires c κs =
     let turn = c .before .before .before in
     let p = turn .before .before .pre in
     (p .0, omega (arith, p, turn .loop .inv))
-
-add-slot : tie.Need-add-slot Inv-loop μ-loop
-add-slot c = omega arith
-
-loop-less : tie.Need-loop-less Inv-loop μ-loop
-loop-less c = omega arith
 
 loop-again : tie.Need-loop-again Inv-loop μ-loop
 unfolding frame-at
@@ -69,9 +51,6 @@ loop-again c =
           (rw (calls-next (heard-in f (λ k. frame-bytes (f .settings) (a .round) (frame-at (a .t4) k)) (a .round) (a .to)) (a .places .n) (l .slot) (omega arith))
           (hear-more _ _ _ _ z _ (c .heard-at .ensures f (λ k. frame-bytes (f .settings) (a .round) (frame-at (a .t4) k)) h refl) run)),
     )
-
-close-requires : tie.Need-close-requires Inv-loop μ-loop
-close-requires c κs = search needs
 
 returns : tie.Need-returns Inv-loop μ-loop
 unfolding round-calls
@@ -92,13 +71,13 @@ after-round-spec =
     Inv-loop
     μ-loop
     loop-holds
-    sub-k
-    cast-k
-    mul-frame
-    array-copy-out-frame
+    (λ c. omega arith)
+    (λ c. omega arith)
+    (λ c. omega arith)
+    (λ c. omega arith)
     heard-at-requires
-    add-slot
-    loop-less
+    (λ c. omega arith)
+    (λ c. omega arith)
     loop-again
-    close-requires
+    (λ c κs. search needs)
     returns)

@@ -15,12 +15,9 @@ array-share-prefix-bytes c = let long : length (c .before .args .frame .bytes) �
 slice-aggregate-take : tie.Need-slice-aggregate-take
 slice-aggregate-take c = let long : length (c .before .before .args .frame .bytes) ≡ longest-frame = search needs in sym (length-take-le (c .before .before .args .size) _ (omega arith))
 
-take-requires : tie.Need-take-requires
-take-requires c κs = search needs
-
 returns : tie.Need-returns
 returns c = take-reads _ _ _ _ _ (c .before .take .ensures)
 
 pub after-taking-spec : {M : Type 1} → statement M
 after-taking-spec =
-    tie.close (tie.spec array-share-prefix-bytes slice-aggregate-take take-requires returns)
+    tie.close (tie.spec array-share-prefix-bytes slice-aggregate-take (λ c κs. search needs) returns)

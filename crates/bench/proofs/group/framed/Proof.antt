@@ -11,18 +11,6 @@ use Rattle.bench.proofs.Listing.Text.{put-front, puts, put-taken}
 use Rattle.bench.proofs.group.framed.Statement.{statement}
 use Rattle.bench.proofs.group.framed.Tie as tie
 
-slice-aggregate-put-header : tie.Need-slice-aggregate-put-header
-slice-aggregate-put-header c = search needs
-
-put-header-requires : tie.Need-put-header-requires
-put-header-requires c κs = search needs
-
-slice-aggregate-put-bytes : tie.Need-slice-aggregate-put-bytes
-slice-aggregate-put-bytes c = search needs
-
-put-bytes-requires : tie.Need-put-bytes-requires
-put-bytes-requires c κs = search needs
-
 returns : tie.Need-returns
 unfolding header command bench-run
 returns c =
@@ -38,8 +26,8 @@ pub framed-spec : {M : Type 1} → statement M
 framed-spec =
     tie.close
     (tie.spec
-    slice-aggregate-put-header
-    put-header-requires
-    slice-aggregate-put-bytes
-    put-bytes-requires
+    (λ c. search needs)
+    (λ c κs. search needs)
+    (λ c. search needs)
+    (λ c κs. search needs)
     returns)

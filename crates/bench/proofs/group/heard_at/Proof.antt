@@ -26,15 +26,6 @@ operand-size-requires : tie.Need-operand-size-requires
 unfolding Places-of
 operand-size-requires c κs = let sizes = small _ _ _ (c .before .before .pre .0 .1) in (sizes .few-bad, sizes .few-bytes)
 
-is-good-requires : tie.Need-is-good-requires
-is-good-requires c κs = search needs
-
-add-after-taking : tie.Need-add-after-taking
-add-after-taking c = search needs
-
-after-taking-requires : tie.Need-after-taking-requires
-after-taking-requires c κs = search needs
-
 -- the size is the operand's of the round
 size-as :
     (c : tie.After-operand-size) (f : Scenario) →
@@ -50,9 +41,6 @@ returns-2 c f frames h e =
     let size = size-as sized f h in
     rw (heard-good f frames _ _ _ (sized .before .if1 .left) (sym (c .before .before .is-good .ensures _ f h) ∙ c .before .if2 .taken))
     (c .after-taking .ensures ∙ ap (after-take (view (a .column)) (a .slot)) (ap (λ (k : ℕ). take (header-size + k) (a .frame .bytes)) size ∙ sym e))
-
-message-at-requires : tie.Need-message-at-requires
-message-at-requires c κs = search needs
 
 returns-3 : tie.Need-returns-3
 unfolding After-hearing
@@ -75,23 +63,8 @@ inside c =
 add-end : tie.Need-add-end
 add-end c = omega (arith, inside c)
 
-sub-framed : tie.Need-sub-framed
-sub-framed c = search needs
-
-part-framed-start : tie.Need-part-framed-start
-part-framed-start c = search needs
-
 part-framed-end : tie.Need-part-framed-end
 part-framed-end c = omega (arith, inside c)
-
-framed-requires : tie.Need-framed-requires
-framed-requires c κs = search needs
-
-add-after-taking-2 : tie.Need-add-after-taking-2
-add-after-taking-2 c = search needs
-
-after-taking-requires-2 : tie.Need-after-taking-requires-2
-after-taking-requires-2 c κs = search needs
 
 returns-4 : tie.Need-returns-4
 unfolding After-hearing
@@ -116,17 +89,17 @@ heard-at-spec =
     (tie.spec
     returns
     operand-size-requires
-    is-good-requires
-    add-after-taking
-    after-taking-requires
+    (λ c κs. search needs)
+    (λ c. search needs)
+    (λ c κs. search needs)
     returns-2
-    message-at-requires
+    (λ c κs. search needs)
     returns-3
     add-end
-    sub-framed
-    part-framed-start
+    (λ c. search needs)
+    (λ c. search needs)
     part-framed-end
-    framed-requires
-    add-after-taking-2
-    after-taking-requires-2
+    (λ c κs. search needs)
+    (λ c. search needs)
+    (λ c κs. search needs)
     returns-4)

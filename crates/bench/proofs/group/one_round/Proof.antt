@@ -41,35 +41,11 @@ loop-holds c =
     let long : length (s .args .t4) ≡ most-columns = search needs in
     (omega arith, omega arith, small _ _ _ (s .pre .0 .1) .few-columns, long, λ f k h low less. absurd (omega arith))
 
-sub-k : tie.Need-sub-k Inv-loop μ-loop
-sub-k c = omega arith
-
-cast-k : tie.Need-cast-k Inv-loop μ-loop
-cast-k c = omega arith
-
-mul-column : tie.Need-mul-column Inv-loop μ-loop
-mul-column c = omega arith
-
-array-copy-out-column : tie.Need-array-copy-out-column Inv-loop μ-loop
-array-copy-out-column c = omega arith
-
 after-round-requires : tie.Need-after-round-requires Inv-loop μ-loop
 after-round-requires c κs =
     let turn = c .before .before .before in
     let p = turn .before .before .before .pre in
     (p .0, p .1, p .2, turn .loop .inv .0, omega arith)
-
-mul-next : tie.Need-mul-next Inv-loop μ-loop
-mul-next c = omega arith
-
-array-set-from-next : tie.Need-array-set-from-next Inv-loop μ-loop
-array-set-from-next c = omega arith
-
-add-number : tie.Need-add-number Inv-loop μ-loop
-add-number c = omega arith
-
-loop-less : tie.Need-loop-less Inv-loop μ-loop
-loop-less c = omega arith
 
 loop-again : tie.Need-loop-again Inv-loop μ-loop
 unfolding record-of
@@ -114,14 +90,14 @@ one-round-spec =
     μ-loop
     all-sent-requires
     loop-holds
-    sub-k
-    cast-k
-    mul-column
-    array-copy-out-column
+    (λ c. omega arith)
+    (λ c. omega arith)
+    (λ c. omega arith)
+    (λ c. omega arith)
     after-round-requires
-    mul-next
-    array-set-from-next
-    add-number
-    loop-less
+    (λ c. omega arith)
+    (λ c. omega arith)
+    (λ c. omega arith)
+    (λ c. omega arith)
     loop-again
     returns)

@@ -30,9 +30,6 @@ Inv-loop file places columns₀ number₀ columns number =
 abbrev μ-loop : tie.MeasureT-loop
 μ-loop file places columns₀ number₀ columns number = places .n + 1 - number
 
-empty-requires : tie.Need-empty-requires Inv-loop μ-loop
-empty-requires c κs = search needs
-
 loop-holds : tie.Need-loop-holds Inv-loop μ-loop
 unfolding Places-of
 loop-holds c = (
@@ -43,26 +40,8 @@ loop-holds c = (
   λ f k v h less e. let inside = opens-of (f .settings) k v (h .opens k v e) in absurd (omega (arith, inside .low)),
 )
 
-sub-k : tie.Need-sub-k Inv-loop μ-loop
-sub-k c = omega arith
-
-cast-k : tie.Need-cast-k Inv-loop μ-loop
-cast-k c = omega arith
-
 opened-at-requires : tie.Need-opened-at-requires Inv-loop μ-loop
 opened-at-requires c κs = let turn = c .before .before in (turn .before .before .before .pre, turn .loop .inv .0, omega arith)
-
-mul-columns : tie.Need-mul-columns Inv-loop μ-loop
-mul-columns c = omega arith
-
-array-set-from-columns : tie.Need-array-set-from-columns Inv-loop μ-loop
-array-set-from-columns c = omega arith
-
-add-number : tie.Need-add-number Inv-loop μ-loop
-add-number c = omega arith
-
-loop-less : tie.Need-loop-less Inv-loop μ-loop
-loop-less c = omega arith
 
 loop-again : tie.Need-loop-again Inv-loop μ-loop
 unfolding record-of
@@ -91,14 +70,14 @@ opened-spec =
     (tie.spec
     Inv-loop
     μ-loop
-    empty-requires
+    (λ c κs. search needs)
     loop-holds
-    sub-k
-    cast-k
+    (λ c. omega arith)
+    (λ c. omega arith)
     opened-at-requires
-    mul-columns
-    array-set-from-columns
-    add-number
-    loop-less
+    (λ c. omega arith)
+    (λ c. omega arith)
+    (λ c. omega arith)
+    (λ c. omega arith)
     loop-again
     returns)

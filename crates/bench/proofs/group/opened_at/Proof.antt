@@ -18,17 +18,8 @@ use Rattle.bench_file.proofs.Located.{bytes-at-inside, bytes-at-none, bytes-at-
 use Rattle.bench.proofs.group.opened_at.Statement.{statement}
 use Rattle.bench.proofs.group.opened_at.Tie as tie
 
-own-at-requires : tie.Need-own-at-requires
-own-at-requires c κs = search needs
-
-empty-requires : tie.Need-empty-requires
-empty-requires c κs = search needs
-
 returns : tie.Need-returns
 returns c f v h e = let own = c .before .before in none-some (sym (bytes-at-none _ (own .before .before .args .places .w) _ _ (own .own-at .ensures _ f h) (c .before .if1 .taken)) ∙ e)
-
-cast-end : tie.Need-cast-end
-cast-end c = search needs
 
 -- an own value's bytes are in the file
 inside : (c : tie.Else1) → let s = c .before .before .before in c .before .own-at .result + s .args .places .w ≤ length (s .args .file .now)
@@ -38,17 +29,8 @@ inside c = let g = c .before .before .before .pre .0 in bytes-at-inside _ _ _ _ 
 add-end : tie.Need-add-end
 add-end c = omega (arith, inside (c .before))
 
-sub-open : tie.Need-sub-open
-sub-open c = search needs
-
-part-open-start : tie.Need-part-open-start
-part-open-start c = search needs
-
 part-open-end : tie.Need-part-open-end
 part-open-end c = omega (arith, inside (c .before))
-
-open-requires : tie.Need-open-requires
-open-requires c κs = search needs
 
 returns-2 : tie.Need-returns-2
 unfolding bench-run
@@ -70,13 +52,13 @@ pub opened-at-spec : {M : Type 1} → statement M
 opened-at-spec =
     tie.close
     (tie.spec
-    own-at-requires
-    empty-requires
+    (λ c κs. search needs)
+    (λ c κs. search needs)
     returns
-    cast-end
+    (λ c. search needs)
     add-end
-    sub-open
-    part-open-start
+    (λ c. search needs)
+    (λ c. search needs)
     part-open-end
-    open-requires
+    (λ c κs. search needs)
     returns-2)

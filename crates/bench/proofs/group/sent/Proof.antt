@@ -11,12 +11,6 @@ use Rattle.bench.specs.Steps.Running.{frame-bytes, Sends}
 use Rattle.bench.proofs.group.sent.Statement.{statement}
 use Rattle.bench.proofs.group.sent.Tie as tie
 
-slice-aggregate-send : tie.Need-slice-aggregate-send
-slice-aggregate-send c = search needs
-
-send-requires : tie.Need-send-requires
-send-requires c κs = search needs
-
 returns : tie.Need-returns
 unfolding Sends frame-bytes Frame-of view who-in who-as
 returns c h =
@@ -27,4 +21,4 @@ returns c h =
     rw kept (wrote .1)
 
 pub sent-spec : {M : Type 1} → statement M
-sent-spec = tie.close (tie.spec slice-aggregate-send send-requires returns)
+sent-spec = tie.close (tie.spec (λ c. search needs) (λ c κs. search needs) returns)

@@ -11,21 +11,9 @@ use Rattle.bench.proofs.Listing.Wording.{line-short, held-alike}
 use Rattle.bench.proofs.lines.put_column.Statement.{statement}
 use Rattle.bench.proofs.lines.put_column.Tie as tie
 
-is-good-requires : tie.Need-is-good-requires
-is-good-requires c κs = search needs
-
 returns : tie.Need-returns
 returns c =
     ((λ file f h finished. rw (sym (c .before .is-good .ensures file f h) ∙ not-true _ (c .if1 .taken)) (put-nothing _ _)), omega arith)
-
-result-requires : tie.Need-result-requires
-result-requires c κs = search needs
-
-cast-n : tie.Need-cast-n
-cast-n c = search needs
-
-cast-w : tie.Need-cast-w
-cast-w c = search needs
 
 put-line-requires : tie.Need-put-line-requires
 put-line-requires c κs =
@@ -33,9 +21,6 @@ put-line-requires c κs =
     let s = found .before .before .before .before in let r = found .result .result in
     omega
     (arith, s .pre, line-short (s .args .number) (s .args .places .n) (s .args .places .w) (r .values) (r .confidences) (omega (arith, s .pre)) (s .pre .2) (s .pre .3))
-
-same-length : tie.Need-same-length
-same-length c = search needs
 
 returns-2 : tie.Need-returns-2
 returns-2 c =
@@ -56,11 +41,11 @@ pub put-column-spec : {M : Type 1} → statement M
 put-column-spec =
     tie.close
     (tie.spec
-    is-good-requires
+    (λ c κs. search needs)
     returns
-    result-requires
-    cast-n
-    cast-w
+    (λ c κs. search needs)
+    (λ c. search needs)
+    (λ c. search needs)
     put-line-requires
-    same-length
+    (λ c. search needs)
     returns-2)

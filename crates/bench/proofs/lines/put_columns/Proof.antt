@@ -30,26 +30,8 @@ loop-holds : tie.Need-loop-holds Inv-loop μ-loop
 loop-holds c =
     (omega arith, omega arith, omega arith, refl, λ file f h finished. rw (lines-all f _ (c .before .args .places .n)) (left-all _ _ _))
 
-sub-k : tie.Need-sub-k Inv-loop μ-loop
-sub-k c = omega arith
-
-cast-k : tie.Need-cast-k Inv-loop μ-loop
-cast-k c = omega arith
-
-mul-column : tie.Need-mul-column Inv-loop μ-loop
-mul-column c = omega arith
-
-array-copy-out-column : tie.Need-array-copy-out-column Inv-loop μ-loop
-array-copy-out-column c = omega arith
-
 put-column-requires : tie.Need-put-column-requires Inv-loop μ-loop
 put-column-requires c κs = let l = c .before .before .before .before in omega (arith, l .before .before .pre, l .loop .inv)
-
-add-number : tie.Need-add-number Inv-loop μ-loop
-add-number c = omega arith
-
-loop-less : tie.Need-loop-less Inv-loop μ-loop
-loop-less c = omega arith
 
 loop-again : tie.Need-loop-again Inv-loop μ-loop
 unfolding All-finished record-of
@@ -85,13 +67,13 @@ put-columns-spec =
     Inv-loop
     μ-loop
     loop-holds
-    sub-k
-    cast-k
-    mul-column
-    array-copy-out-column
+    (λ c. omega arith)
+    (λ c. omega arith)
+    (λ c. omega arith)
+    (λ c. omega arith)
     put-column-requires
-    add-number
-    loop-less
+    (λ c. omega arith)
+    (λ c. omega arith)
     loop-again
     same-length
     returns)

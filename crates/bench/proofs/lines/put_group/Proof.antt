@@ -11,12 +11,6 @@ use Rattle.bench.proofs.Listing.Text.{puts, put-alike}
 use Rattle.bench.proofs.lines.put_group.Statement.{statement}
 use Rattle.bench.proofs.lines.put_group.Tie as tie
 
-slice-aggregate-put-bytes : tie.Need-slice-aggregate-put-bytes
-slice-aggregate-put-bytes c = search needs
-
-put-bytes-requires : tie.Need-put-bytes-requires
-put-bytes-requires c κs = search needs
-
 put-decimal-requires : tie.Need-put-decimal-requires
 put-decimal-requires c κs =
     let word = c .before .before .before in
@@ -58,9 +52,6 @@ size-end d =
 put-byte-requires : tie.Need-put-byte-requires
 put-byte-requires c κs = omega (arith, size-end (c .before .before .before))
 
-same-length : tie.Need-same-length
-same-length c = search needs
-
 returns : tie.Need-returns
 unfolding group-line settings
 returns c =
@@ -77,11 +68,11 @@ pub put-group-spec : {M : Type 1} → statement M
 put-group-spec =
     tie.close
     (tie.spec
-    slice-aggregate-put-bytes
-    put-bytes-requires
+    (λ c. search needs)
+    (λ c κs. search needs)
     put-decimal-requires
     put-marked-requires
     put-marked-requires-2
     put-byte-requires
-    same-length
+    (λ c. search needs)
     returns)

@@ -9,9 +9,6 @@ use Rattle.bench.proofs.Listing.Text.{puts}
 use Rattle.bench.proofs.lines.put_held.Statement.{statement}
 use Rattle.bench.proofs.lines.put_held.Tie as tie
 
-put-byte-requires : tie.Need-put-byte-requires
-put-byte-requires c κs = search needs
-
 put-value-requires : tie.Need-put-value-requires
 unfolding held-text held-as
 put-value-requires c κs =
@@ -28,9 +25,6 @@ put-marked-requires c κs =
     omega
     (arith, s .pre, s .fits .confidence, space .put-byte .ensures .behind, space .put-byte .kept .0, value .put-value .ensures .behind, value .put-value .kept .0, length-append (value-text (s .args .value .now)) (47 ∷ decimal (s .args .confidence)))
 
-same-length : tie.Need-same-length
-same-length c = search needs
-
 returns : tie.Need-returns
 unfolding held-text held-as
 returns c =
@@ -44,4 +38,4 @@ returns c =
 pub put-held-spec : {M : Type 1} → statement M
 put-held-spec =
     tie.close
-    (tie.spec put-byte-requires put-value-requires put-marked-requires same-length returns)
+    (tie.spec (λ c κs. search needs) put-value-requires put-marked-requires (λ c. search needs) returns)

@@ -36,20 +36,11 @@ mul-start c = let l = c .before .loop in let s = c .before .before .before in om
 add-end : tie.Need-add-end Inv-loop μ-loop
 add-end c = let l = c .before .loop in let s = c .before .before .before in omega (arith, value-in (s .args .n) (s .args .w) (l .j) (s .pre .0) (s .pre .1) (omega arith))
 
-sub-put-held : tie.Need-sub-put-held Inv-loop μ-loop
-sub-put-held c = omega arith
-
-part-put-held-start : tie.Need-part-put-held-start Inv-loop μ-loop
-part-put-held-start c = omega arith
-
 part-put-held-end : tie.Need-part-put-held-end Inv-loop μ-loop
 part-put-held-end c =
     let l = c .before .before .before .loop in
     let s = c .before .before .before .before .before in
     omega (arith, l .inv .2, value-in (s .args .n) (s .args .w) (l .j) (s .pre .0) (s .pre .1) (omega arith))
-
-array-read-put-held : tie.Need-array-read-put-held Inv-loop μ-loop
-array-read-put-held c = omega arith
 
 put-held-requires : tie.Need-put-held-requires Inv-loop μ-loop
 put-held-requires c κs =
@@ -59,12 +50,6 @@ put-held-requires c κs =
     let next = holdings-next (a .n) (a .w) (a .t5) (a .t6) (l .j) (omega arith) in
     let long = ap length next ∙ length-append (32 ∷ held-text (held-as (take (a .w) (drop (l .j * a .w) (a .t5))) (getD (a .t6) (l .j) 0))) _ in
     rw size (omega (arith, left-room (l .inv .4) (s .pre .2), long))
-
-add-j : tie.Need-add-j Inv-loop μ-loop
-add-j c = omega arith
-
-loop-less : tie.Need-loop-less Inv-loop μ-loop
-loop-less c = omega arith
 
 loop-again : tie.Need-loop-again Inv-loop μ-loop
 loop-again c =
@@ -100,13 +85,13 @@ put-holdings-spec =
     loop-holds
     mul-start
     add-end
-    sub-put-held
-    part-put-held-start
+    (λ c. omega arith)
+    (λ c. omega arith)
     part-put-held-end
-    array-read-put-held
+    (λ c. omega arith)
     put-held-requires
-    add-j
-    loop-less
+    (λ c. omega arith)
+    (λ c. omega arith)
     loop-again
     same-length
     returns)

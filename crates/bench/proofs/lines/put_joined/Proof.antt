@@ -39,9 +39,6 @@ returns c =
     let a = c .before .before .before .args in
     put-alike (joined-none (a .bytes .now) (c .if1 .taken)) (put-nothing (a .at) (a .output .now))
 
-shared-slice-read-put-decimal : tie.Need-shared-slice-read-put-decimal Inv-loop μ-loop
-shared-slice-read-put-decimal c = omega arith
-
 cast-put-decimal : tie.Need-cast-put-decimal Inv-loop μ-loop
 cast-put-decimal c = omega (arith, c .shared-slice-known2 .given 0)
 
@@ -63,9 +60,6 @@ loop-holds c =
       left-all _ _ _,
     )
 
-shared-slice-read-put-marked : tie.Need-shared-slice-read-put-marked Inv-loop μ-loop
-shared-slice-read-put-marked c = omega arith
-
 cast-put-marked : tie.Need-cast-put-marked Inv-loop μ-loop
 cast-put-marked c = omega (arith, c .shared-slice-known3 .given (c .before .before .before .loop .i))
 
@@ -75,12 +69,6 @@ put-marked-requires c κs =
     let bytes = start (turn .before .before .before) .args .bytes .now in
     let next = ap length (pointed-next bytes (l .i) (omega arith)) ∙ length-append (46 ∷ decimal (getD bytes (l .i) 0)) _ in
     omega (arith, c .shared-slice-known3 .given (l .i), next, left-room (l .inv .3) (l .inv .2))
-
-add-i : tie.Need-add-i Inv-loop μ-loop
-add-i c = omega arith
-
-loop-less : tie.Need-loop-less Inv-loop μ-loop
-loop-less c = omega arith
 
 loop-again : tie.Need-loop-again Inv-loop μ-loop
 loop-again c =
@@ -112,15 +100,15 @@ put-joined-spec =
     Inv-loop
     μ-loop
     returns
-    shared-slice-read-put-decimal
+    (λ c. omega arith)
     cast-put-decimal
     put-decimal-requires
     loop-holds
-    shared-slice-read-put-marked
+    (λ c. omega arith)
     cast-put-marked
     put-marked-requires
-    add-i
-    loop-less
+    (λ c. omega arith)
+    (λ c. omega arith)
     loop-again
     same-length
     returns-2)

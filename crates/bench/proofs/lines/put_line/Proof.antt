@@ -34,9 +34,6 @@ put-byte-requires c κs =
     omega
     (arith, s .pre, number .put-decimal .ensures .behind, number .put-decimal .kept .0, holdings .put-holdings .ensures .behind, holdings .put-holdings .kept .0, line-length (s .args .number) (held-in (settings (s .args .n) 0 (s .args .w)) (s .args .values) (s .args .confidences)))
 
-same-length : tie.Need-same-length
-same-length c = search needs
-
 returns : tie.Need-returns
 unfolding column-line
 returns c =
@@ -50,4 +47,4 @@ returns c =
 pub put-line-spec : {M : Type 1} → statement M
 put-line-spec =
     tie.close
-    (tie.spec put-decimal-requires put-holdings-requires put-byte-requires same-length returns)
+    (tie.spec put-decimal-requires put-holdings-requires put-byte-requires (λ c. search needs) returns)

@@ -22,9 +22,6 @@ put-columns-requires : tie.Need-put-columns-requires
 unfolding listing-room
 put-columns-requires c κs = let group = c .before .before .before in let s = group .before .before .before in omega (arith, small _ _ _ (s .pre .0 .2), s .pre .1, group .put-group .ensures .1, group .put-group .kept .0)
 
-same-length : tie.Need-same-length
-same-length c = search needs
-
 returns : tie.Need-returns
 unfolding listing
 returns c file f h finished =
@@ -37,4 +34,4 @@ returns c file f h finished =
     (puts (omega arith) (group .put-group .ensures .0) (lines .put-columns .ensures file f h finished))
 
 pub put-listing-spec : {M : Type 1} → statement M
-put-listing-spec = tie.close (tie.spec put-group-requires put-columns-requires same-length returns)
+put-listing-spec = tie.close (tie.spec put-group-requires put-columns-requires (λ c. search needs) returns)

@@ -9,9 +9,6 @@ use Rattle.bench.proofs.Listing.Text.{puts, put-alike}
 use Rattle.bench.proofs.lines.put_refused.Statement.{statement}
 use Rattle.bench.proofs.lines.put_refused.Tie as tie
 
-slice-aggregate-put-bytes : tie.Need-slice-aggregate-put-bytes
-slice-aggregate-put-bytes c = search needs
-
 put-bytes-requires : tie.Need-put-bytes-requires
 unfolding listing-room
 put-bytes-requires c κs = omega (arith, c .before .before .before .pre .1)
@@ -31,9 +28,6 @@ put-byte-requires c κs =
     let s = word .before .before .before .before in
     omega (arith, s .pre, word .put-bytes .ensures .behind, word .put-bytes .kept .0, number .put-decimal .ensures .behind, number .put-decimal .kept .0, decimal-short (s .args .number))
 
-same-length : tie.Need-same-length
-same-length c = search needs
-
 returns : tie.Need-returns
 unfolding refused-line
 returns c =
@@ -46,9 +40,9 @@ pub put-refused-spec : {M : Type 1} → statement M
 put-refused-spec =
     tie.close
     (tie.spec
-    slice-aggregate-put-bytes
+    (λ c. search needs)
     put-bytes-requires
     put-decimal-requires
     put-byte-requires
-    same-length
+    (λ c. search needs)
     returns)

@@ -9,16 +9,10 @@ use Rattle.grading.proofs.Value.{all-zero-blank}
 use Rattle.bench.proofs.lines.put_value.Statement.{statement}
 use Rattle.bench.proofs.lines.put_value.Tie as tie
 
-is-zero-requires : tie.Need-is-zero-requires
-is-zero-requires c κs = search needs
-
 put-byte-requires : tie.Need-put-byte-requires
 put-byte-requires c κs =
     let s = c .before .before .before .before .before in
     omega (arith, s .pre, ap length (blank-text (s .args .value .now) (sym (c .before .before .is-zero .ensures ∙ all-zero-blank (s .args .value .now)) ∙ c .before .if1 .taken)))
-
-same-length : tie.Need-same-length
-same-length c = search needs
 
 returns : tie.Need-returns
 returns c =
@@ -31,9 +25,6 @@ put-joined-requires c κs =
     let s = c .before .before .before .before .before in
     omega (arith, s .pre, ap length (filled-text (s .args .value .now) (sym (c .before .before .is-zero .ensures ∙ all-zero-blank (s .args .value .now)) ∙ c .before .if1 .left)))
 
-same-length-2 : tie.Need-same-length-2
-same-length-2 c = search needs
-
 returns-2 : tie.Need-returns-2
 returns-2 c =
     let d = c .before .before .before .before in
@@ -44,10 +35,10 @@ pub put-value-spec : {M : Type 1} → statement M
 put-value-spec =
     tie.close
     (tie.spec
-    is-zero-requires
+    (λ c κs. search needs)
     put-byte-requires
-    same-length
+    (λ c. search needs)
     returns
     put-joined-requires
-    same-length-2
+    (λ c. search needs)
     returns-2)

@@ -4,19 +4,10 @@ use Rattle.bench.proofs.Listing.Text.{put-written}
 use Rattle.bench.proofs.printing.put_bytes.Statement.{statement}
 use Rattle.bench.proofs.printing.put_bytes.Tie as tie
 
-copy-requires : tie.Need-copy-requires
-copy-requires c κs = search needs
-
-add-result : tie.Need-add-result
-add-result c = search needs
-
-same-length : tie.Need-same-length
-same-length c = search needs
-
 returns : tie.Need-returns
 returns c =
     let s = c .before .before .before .before .before .before in
     record { behind = refl; bytes = put-written (s .args .at) (s .args .bytes .now) (s .args .output .now) _ (s .pre) (c .before .before .copy .ensures) }
 
 pub put-bytes-spec : {M : Type 1} → statement M
-put-bytes-spec = tie.close (tie.spec copy-requires add-result same-length returns)
+put-bytes-spec = tie.close (tie.spec (λ c κs. search needs) (λ c. search needs) (λ c. search needs) returns)

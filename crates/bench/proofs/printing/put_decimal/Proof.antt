@@ -11,9 +11,6 @@ use Rattle.bench.proofs.printing.put_decimal.Tie as tie
 put-digit-requires : tie.Need-put-digit-requires
 put-digit-requires c κs = omega (arith, one-long (c .before .before .before .args .number) (c .before .if1 .taken))
 
-same-length : tie.Need-same-length
-same-length c = search needs
-
 returns : tie.Need-returns
 returns c =
     let b = c .before .before .before .before in
@@ -28,9 +25,6 @@ put-digit-requires-3 c κs =
     let d = c .before .before .before in
     let a = d .before .before .before .before .before .args in
     omega (arith, two-long (a .number) (omega arith) (omega arith), d .put-digit2 .ensures .behind, d .put-digit2 .kept .0)
-
-same-length-2 : tie.Need-same-length-2
-same-length-2 c = search needs
 
 returns-2 : tie.Need-returns-2
 returns-2 c =
@@ -58,9 +52,6 @@ put-digit-requires-6 c κs =
     omega
     (arith, three-long (a .number) (omega arith), d .put-digit5 .ensures .behind, e .put-digit4 .ensures .behind, d .put-digit5 .kept .0, e .put-digit4 .kept .0)
 
-same-length-3 : tie.Need-same-length-3
-same-length-3 c = search needs
-
 returns-3 : tie.Need-returns-3
 unfolding digit
 returns-3 c =
@@ -77,14 +68,14 @@ put-decimal-spec =
     tie.close
     (tie.spec
     put-digit-requires
-    same-length
+    (λ c. search needs)
     returns
     put-digit-requires-2
     put-digit-requires-3
-    same-length-2
+    (λ c. search needs)
     returns-2
     put-digit-requires-4
     put-digit-requires-5
     put-digit-requires-6
-    same-length-3
+    (λ c. search needs)
     returns-3)

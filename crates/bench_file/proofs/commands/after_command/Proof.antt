@@ -14,9 +14,6 @@ use Rattle.bench_file.proofs.OneCommand.Readings.{columns, own-read, me
 use Rattle.bench_file.proofs.commands.after_command.Statement.{statement}
 use Rattle.bench_file.proofs.commands.after_command.Tie as tie
 
-head-size-requires : tie.Need-head-size-requires
-head-size-requires c κs = search needs
-
 add-body : tie.Need-add-body
 unfolding command-size
 add-body c =
@@ -46,9 +43,6 @@ returns c file f k =
     c .with-own .ensures file f v h ((λ z. omega (arith, z, body)), omega (arith, body, r .size), r .value ∙ ap (λ (i : ℕ). take (a .places .w) (drop i file)) (sym body))
     (ap (λ (i : ℕ). open-refusal (f .settings) i v) column ∙ r .opens) in
     rw (r .after) (subst (λ (i : ℕ). Located file (c .with-own .result) (with-own f i v)) column more)
-
-heading-of-requires : tie.Need-heading-of-requires
-heading-of-requires c κs = search needs
 
 with-message-requires : tie.Need-with-message-requires
 unfolding message-in message
@@ -87,10 +81,10 @@ pub after-command-spec : {M : Type 1} → statement M
 after-command-spec =
     tie.close
     (tie.spec
-    head-size-requires
+    (λ c κs. search needs)
     add-body
     with-own-requires
     returns
-    heading-of-requires
+    (λ c κs. search needs)
     with-message-requires
     returns-2)

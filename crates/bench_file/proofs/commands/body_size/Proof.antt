@@ -11,17 +11,11 @@ returns : tie.Need-returns
 unfolding body-size
 returns c = (simp (eq-eqb (c .before .args .command) 15 (c .if1 .taken)), omega arith)
 
-operand-size-requires : tie.Need-operand-size-requires
-operand-size-requires c κs = search needs
-
 returns-2 : tie.Need-returns-2
 unfolding body-size
 returns-2 c =
     let a = c .before .before .before .args in
     (c .operand-size .ensures .0 ∙ simp (ne-eqb (a .command) 15 (c .before .before .if1 .left), eq-eqb (a .command) 3 (c .before .if2 .taken)), c .operand-size .ensures .1)
-
-operand-size-requires-2 : tie.Need-operand-size-requires-2
-operand-size-requires-2 c κs = search needs
 
 returns-3 : tie.Need-returns-3
 unfolding body-size
@@ -30,4 +24,4 @@ returns-3 c =
     (c .operand-size2 .ensures .0 ∙ simp (ne-eqb (a .command) 15 (c .before .before .if1 .left), ne-eqb (a .command) 3 (c .before .if2 .left)), c .operand-size2 .ensures .1)
 
 pub body-size-spec : {M : Type 1} → statement M
-body-size-spec = tie.close (tie.spec returns operand-size-requires returns-2 operand-size-requires-2 returns-3)
+body-size-spec = tie.close (tie.spec returns (λ c κs. search needs) returns-2 (λ c κs. search needs) returns-3)

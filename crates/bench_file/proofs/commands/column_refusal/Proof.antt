@@ -9,9 +9,6 @@ use Rattle.bench_file.proofs.OneCommand.Faults.{column-inside, column-a
 use Rattle.bench_file.proofs.commands.column_refusal.Statement.{statement}
 use Rattle.bench_file.proofs.commands.column_refusal.Tie as tie
 
-is-column-requires : tie.Need-is-column-requires
-is-column-requires c κs = search needs
-
 returns : tie.Need-returns
 unfolding column-refusal
 returns c file f h = simp (column-as f _ _ _ _ (h .settings) (sym (c .before .is-column .ensures) ∙ not-true _ (c .if1 .taken)))
@@ -33,4 +30,4 @@ returns-3 c file f h = simp (column-as f _ _ _ _ (h .settings) (there (c .before
 
 pub column-refusal-spec : {M : Type 1} → statement M
 column-refusal-spec =
-    tie.close (tie.spec is-column-requires returns is-good-requires returns-2 returns-3)
+    tie.close (tie.spec (λ c κs. search needs) returns is-good-requires returns-2 returns-3)

@@ -12,9 +12,6 @@ use Rattle.bench_file.proofs.Located.{small}
 use Rattle.bench_file.proofs.commands.command_refusal.Statement.{statement}
 use Rattle.bench_file.proofs.commands.command_refusal.Tie as tie
 
-sub-left : tie.Need-sub-left
-sub-left c = search needs
-
 form-refusal-requires : tie.Need-form-refusal-requires
 unfolding Places-of
 form-refusal-requires c κs = let s = small _ _ _ (c .before .pre .0 .1) in (s .few-bad, s .few-bytes)
@@ -67,7 +64,7 @@ pub command-refusal-spec : {M : Type 1} → statement M
 command-refusal-spec =
     tie.close
     (tie.spec
-    sub-left
+    (λ c. search needs)
     form-refusal-requires
     returns
     operand-refusal-requires

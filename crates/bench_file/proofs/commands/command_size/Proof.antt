@@ -5,18 +5,9 @@ use Rattle.bench_file.specs.Command.{command-size}
 use Rattle.bench_file.proofs.commands.command_size.Statement.{statement}
 use Rattle.bench_file.proofs.commands.command_size.Tie as tie
 
-head-size-requires : tie.Need-head-size-requires
-head-size-requires c κs = search needs
-
-body-size-requires : tie.Need-body-size-requires
-body-size-requires c κs = search needs
-
-add-result : tie.Need-add-result
-add-result c = search needs
-
 returns : tie.Need-returns
 unfolding command-size
 returns c = (simp (c .before .head-size .ensures .0, c .body-size .ensures .0), omega arith)
 
 pub command-size-spec : {M : Type 1} → statement M
-command-size-spec = tie.close (tie.spec head-size-requires body-size-requires add-result returns)
+command-size-spec = tie.close (tie.spec (λ c κs. search needs) (λ c κs. search needs) (λ c. search needs) returns)

@@ -9,22 +9,13 @@ use Rattle.bench_file.specs.Command.{command-size, form-fault}
 use Rattle.bench_file.proofs.commands.form_refusal.Statement.{statement}
 use Rattle.bench_file.proofs.commands.form_refusal.Tie as tie
 
-is-known-requires : tie.Need-is-known-requires
-is-known-requires c κs = search needs
-
 returns : tie.Need-returns
 unfolding form-fault
 returns c = simp (sym (c .before .is-known .ensures) ∙ not-true _ (c .if1 .taken))
 
-both-requires : tie.Need-both-requires
-both-requires c κs = search needs
-
 returns-2 : tie.Need-returns-2
 unfolding form-fault
 returns-2 c = let known = c .before .before in simp (sym (known .before .is-known .ensures) ∙ not-false _ (known .if1 .left), sym (c .before .both .ensures) ∙ c .if2 .taken)
-
-command-size-requires : tie.Need-command-size-requires
-command-size-requires c κs = search needs
 
 -- a command that is known and in order
 in-order :
@@ -37,9 +28,6 @@ in-order c = let known = c .before .before in simp (sym (known .before .is-known
 
 returns-3 : tie.Need-returns-3
 returns-3 c = sym (in-order (c .before .before) ∙ simp (sym (c .before .command-size .ensures .0), lt-ltb _ _ (c .if3 .taken)))
-
-both-requires-2 : tie.Need-both-requires-2
-both-requires-2 c κs = search needs
 
 returns-4 : tie.Need-returns-4
 returns-4 c =
@@ -55,12 +43,12 @@ pub form-refusal-spec : {M : Type 1} → statement M
 form-refusal-spec =
     tie.close
     (tie.spec
-    is-known-requires
+    (λ c κs. search needs)
     returns
-    both-requires
+    (λ c κs. search needs)
     returns-2
-    command-size-requires
+    (λ c κs. search needs)
     returns-3
-    both-requires-2
+    (λ c κs. search needs)
     returns-4
     returns-5)

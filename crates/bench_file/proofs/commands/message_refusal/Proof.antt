@@ -15,9 +15,6 @@ use Rattle.bench_file.proofs.Located.{bytes-at-taken}
 use Rattle.bench_file.proofs.commands.message_refusal.Statement.{statement}
 use Rattle.bench_file.proofs.commands.message_refusal.Tie as tie
 
-is-column-requires : tie.Need-is-column-requires
-is-column-requires c κs = search needs
-
 -- the columns of a message, past their tests
 sender : (c : tie.Else1) → is-column (c .before .before .args .places .n) (c .before .before .args .from) ≡ true
 sender c = sym (c .before .is-column .ensures) ∙ not-false _ (c .if1 .left)
@@ -28,9 +25,6 @@ reader c = sym (c .before .is-column2 .ensures) ∙ not-false _ (c .if2 .left)
 returns : tie.Need-returns
 unfolding message-refusal
 returns c file f h = simp (column-as f _ _ _ _ (h .settings) (sym (c .before .is-column .ensures) ∙ not-true _ (c .if1 .taken)))
-
-is-column-requires-2 : tie.Need-is-column-requires-2
-is-column-requires-2 c κs = search needs
 
 returns-2 : tie.Need-returns-2
 unfolding message-refusal
@@ -88,9 +82,9 @@ pub message-refusal-spec : {M : Type 1} → statement M
 message-refusal-spec =
     tie.close
     (tie.spec
-    is-column-requires
+    (λ c κs. search needs)
     returns
-    is-column-requires-2
+    (λ c κs. search needs)
     returns-2
     is-good-requires
     returns-3

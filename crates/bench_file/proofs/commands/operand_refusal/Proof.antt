@@ -15,18 +15,9 @@ use Rattle.bench_file.proofs.commands.operand_refusal.Tie as tie
 returns : tie.Need-returns
 returns c file f bs h b = sym (operand-end f bs (b .command ∙ c .if1 .taken))
 
-column-refusal-requires : tie.Need-column-refusal-requires
-column-refusal-requires c κs = search needs
-
 returns-2 : tie.Need-returns-2
 returns-2 c file f bs h b =
     c .column-refusal .ensures _ f h ∙ ap (column-refusal f) (sym (b .first)) ∙ sym (operand-own f bs (b .command ∙ c .before .if2 .taken))
-
-heading-of-requires : tie.Need-heading-of-requires
-heading-of-requires c κs = search needs
-
-checks-round-refusal-requires : tie.Need-checks-round-refusal-requires
-checks-round-refusal-requires c κs = search needs
 
 returns-3 : tie.Need-returns-3
 returns-3 c file f bs h b =
@@ -66,10 +57,10 @@ operand-refusal-spec =
     tie.close
     (tie.spec
     returns
-    column-refusal-requires
+    (λ c κs. search needs)
     returns-2
-    heading-of-requires
-    checks-round-refusal-requires
+    (λ c κs. search needs)
+    (λ c κs. search needs)
     returns-3
     message-refusal-requires
     returns-4)

@@ -13,12 +13,6 @@ use Rattle.bench_file.proofs.OneCommand.Faults.{size-alike}
 use Rattle.bench_file.proofs.commands.step_at.Statement.{statement}
 use Rattle.bench_file.proofs.commands.step_at.Tie as tie
 
-head-at-requires : tie.Need-head-at-requires
-head-at-requires c κs = search needs
-
-command-refusal-requires : tie.Need-command-refusal-requires
-command-refusal-requires c κs = search needs
-
 returns : tie.Need-returns
 unfolding Stepped
 returns c f h = (c .before .command-refusal .ensures f h, c .if1 .taken)
@@ -35,9 +29,6 @@ command-size-requires c κs =
     let refused = c .before .before .before in
     let s = small _ _ _ (refused .before .before .before .pre .0 .1) in
     (s .few-bad, s .few-bytes)
-
-add-next : tie.Need-add-next
-add-next c = search needs
 
 -- neither turned down nor the end
 abbrev start : tie.After-command-size → tie.Start
@@ -75,11 +66,11 @@ pub step-at-spec : {M : Type 1} → statement M
 step-at-spec =
     tie.close
     (tie.spec
-    head-at-requires
-    command-refusal-requires
+    (λ c κs. search needs)
+    (λ c κs. search needs)
     returns
     returns-2
     command-size-requires
-    add-next
+    (λ c. search needs)
     after-command-requires
     returns-3)

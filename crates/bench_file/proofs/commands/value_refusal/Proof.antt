@@ -15,23 +15,8 @@ returns : tie.Need-returns
 unfolding value-fault
 returns c = simp (ne-eqb (c .before .before .args .command) 4 (c .if1 .taken))
 
-add-start : tie.Need-add-start
-add-start c = search needs
-
-add-end : tie.Need-add-end
-add-end c = search needs
-
-sub-is-zero : tie.Need-sub-is-zero
-sub-is-zero c = search needs
-
-part-is-zero-start : tie.Need-part-is-zero-start
-part-is-zero-start c = search needs
-
 part-is-zero-end : tie.Need-part-is-zero-end
 part-is-zero-end c = omega (arith, c .before .before .pre .2 (c .if1 .left))
-
-is-zero-requires : tie.Need-is-zero-requires
-is-zero-requires c κs = search needs
 
 -- the value's bytes
 own :
@@ -54,11 +39,11 @@ value-refusal-spec =
     tie.close
     (tie.spec
     returns
-    add-start
-    add-end
-    sub-is-zero
-    part-is-zero-start
+    (λ c. search needs)
+    (λ c. search needs)
+    (λ c. search needs)
+    (λ c. search needs)
     part-is-zero-end
-    is-zero-requires
+    (λ c κs. search needs)
     returns-2
     returns-3)

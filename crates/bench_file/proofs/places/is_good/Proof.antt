@@ -5,12 +5,9 @@ use Rattle.bench_file.proofs.Located.{bytes-at-taken}
 use Rattle.bench_file.proofs.places.is_good.Statement.{statement}
 use Rattle.bench_file.proofs.places.is_good.Tie as tie
 
-own-at-requires : tie.Need-own-at-requires
-own-at-requires c κs = search needs
-
 returns : tie.Need-returns
 unfolding is-good
 returns c file f h = bytes-at-taken file (c .before .args .places .w) _ _ (c .own-at .ensures file f h)
 
 pub is-good-spec : {M : Type 1} → statement M
-is-good-spec = tie.close (tie.spec own-at-requires returns)
+is-good-spec = tie.close (tie.spec (λ c κs. search needs) returns)

@@ -11,15 +11,6 @@ use Rattle.bench_file.proofs.Located.{message-more}
 use Rattle.bench_file.proofs.places.with_message.Statement.{statement}
 use Rattle.bench_file.proofs.places.with_message.Tie as tie
 
-index-of-message-requires : tie.Need-index-of-message-requires
-index-of-message-requires c κs = search needs
-
-mul-more : tie.Need-mul-more
-mul-more c = search needs
-
-element-write-more : tie.Need-element-write-more
-element-write-more c = search needs
-
 returns : tie.Need-returns
 unfolding with-message no-message message
 returns c file f x h stored =
@@ -40,4 +31,4 @@ returns c file f x h stored =
     }
 
 pub with-message-spec : {M : Type 1} → statement M
-with-message-spec = tie.close (tie.spec index-of-message-requires mul-more element-write-more returns)
+with-message-spec = tie.close (tie.spec (λ c κs. search needs) (λ c. search needs) (λ c. search needs) returns)

@@ -9,18 +9,6 @@ use Rattle.bench_file.proofs.Located.{own-more, own-opens}
 use Rattle.bench_file.proofs.places.with_own.Statement.{statement}
 use Rattle.bench_file.proofs.places.with_own.Tie as tie
 
-sub-k : tie.Need-sub-k
-sub-k c = search needs
-
-cast-k : tie.Need-cast-k
-cast-k c = search needs
-
-mul-more : tie.Need-mul-more
-mul-more c = search needs
-
-element-write-more : tie.Need-element-write-more
-element-write-more c = search needs
-
 returns : tie.Need-returns
 unfolding with-own own-of
 returns c file f v h stored good =
@@ -37,4 +25,4 @@ returns c file f v h stored good =
     }
 
 pub with-own-spec : {M : Type 1} → statement M
-with-own-spec = tie.close (tie.spec sub-k cast-k mul-more element-write-more returns)
+with-own-spec = tie.close (tie.spec (λ c. search needs) (λ c. search needs) (λ c. search needs) (λ c. search needs) returns)

@@ -21,9 +21,6 @@ returns-2 c bs b e =
     let short : length bs < 4 = omega arith in
     simp (eq-eqb _ 1 (b .command ∙ c .before .if1 .left), lt-ltb _ 4 short)
 
-settings-refusal-requires : tie.Need-settings-refusal-requires
-settings-refusal-requires c κs = search needs
-
 returns-3 : tie.Need-returns-3
 unfolding group-refusal group-in first-of
 returns-3 c bs b e =
@@ -32,4 +29,4 @@ returns-3 c bs b e =
     ∙ simp (eq-eqb _ 1 (b .command ∙ c .before .before .if1 .left), le-ltb _ 4 long, b .first, b .second, b .third)
 
 pub group-refusal-spec : {M : Type 1} → statement M
-group-refusal-spec = tie.close (tie.spec returns returns-2 settings-refusal-requires returns-3)
+group-refusal-spec = tie.close (tie.spec returns returns-2 (λ c κs. search needs) returns-3)

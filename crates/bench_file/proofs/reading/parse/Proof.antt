@@ -9,34 +9,19 @@ use Rattle.bench_file.proofs.WholeFile.Commands.{group-le, group-fits, 
 use Rattle.bench_file.proofs.reading.parse.Statement.{statement}
 use Rattle.bench_file.proofs.reading.parse.Tie as tie
 
-refused-requires : tie.Need-refused-requires
-refused-requires c κs = search needs
-
 returns : tie.Need-returns
 unfolding Parsed-as
 returns c = rw (parse-long _ (c .before .if1 .taken)) (c .refused .ensures, (λ z. omega (arith, z)), omega arith)
 
-head-at-requires : tie.Need-head-at-requires
-head-at-requires c κs = search needs
-
-group-refusal-requires : tie.Need-group-refusal-requires
-group-refusal-requires c κs = search needs
-
 -- where the group command is turned down
 group : (c : tie.After-group-refusal) → c .group-refusal .result ≡ group-refusal (c .before .before .before .before .args .file .now)
 group c = c .group-refusal .ensures _ (c .before .head-at .ensures) refl
-
-refused-requires-2 : tie.Need-refused-requires-2
-refused-requires-2 c κs = search needs
 
 returns-2 : tie.Need-returns-2
 unfolding Parsed-as
 returns-2 c =
     let wrong = c .before .before in
     rw (parse-refused _ (wrong .before .before .if1 .left) (λ z. c .before .if2 .taken (group wrong ∙ z))) (c .refused2 .ensures ∙ group wrong, (λ z. c .before .if2 .taken (group wrong ∙ z)), group-le _)
-
-only-settings-requires : tie.Need-only-settings-requires
-only-settings-requires c κs = search needs
 
 parse-commands-requires : tie.Need-parse-commands-requires
 unfolding group-in
@@ -56,12 +41,12 @@ pub parse-spec : {M : Type 1} → statement M
 parse-spec =
     tie.close
     (tie.spec
-    refused-requires
+    (λ c κs. search needs)
     returns
-    head-at-requires
-    group-refusal-requires
-    refused-requires-2
+    (λ c κs. search needs)
+    (λ c κs. search needs)
+    (λ c κs. search needs)
     returns-2
-    only-settings-requires
+    (λ c κs. search needs)
     parse-commands-requires
     returns-3)

@@ -92,27 +92,15 @@ stepped :
     let l = d .before .before .loop in Stepped (l .inv .scenario) (file-at d) (l .at) t (d .step-from .result .places)
 stepped d t e = let l = d .before .before .loop in subst (λ (x : Turn). Stepped (l .inv .scenario) (file-at d) (l .at) x (d .step-from .result .places)) e (d .step-from .ensures (l .inv .scenario) (l .inv .located))
 
-enum-known-turn : tie.Need-enum-known-turn Inv-loop μ-loop
-enum-known-turn c = search needs
-
-refused-requires : tie.Need-refused-requires Inv-loop μ-loop
-refused-requires c κs = search needs
-
 returns : tie.Need-returns Inv-loop μ-loop
 unfolding whole
 returns c =
     let d = c .before .before .before .before .before in
     rw (c .refused .ensures) (turned-down (file-at d) _ _ (d .before .before .loop .inv) (inside d) _ _ _ (stepped d _ (c .before .before .turn .given .1)))
 
-enum-told : tie.Need-enum-told Inv-loop μ-loop
-enum-told c = search needs
-
 returns-2 : tie.Need-returns-2 Inv-loop μ-loop
 unfolding whole
 returns-2 c = let d = c .before .before .before in ended (file-at d) _ _ (d .before .before .loop .inv) (inside d) _ (stepped d _ (c .enum-told .given .1))
-
-enum-known-turn-2 : tie.Need-enum-known-turn-2 Inv-loop μ-loop
-enum-known-turn-2 c = search needs
 
 -- the next turn of the loop
 again :
@@ -127,9 +115,6 @@ loop-less c = let next = again c in omega (arith, next .0, next .1 .inside)
 
 loop-again : tie.Need-loop-again Inv-loop μ-loop
 loop-again c = again c .1
-
-refused-requires-2 : tie.Need-refused-requires-2 Inv-loop μ-loop
-refused-requires-2 c κs = search needs
 
 returns-3 : tie.Need-returns-3 Inv-loop μ-loop
 unfolding Parsed-as whole
@@ -150,13 +135,13 @@ parse-commands-spec =
     μ-loop
     loop-holds
     step-from-requires
-    enum-known-turn
-    refused-requires
+    (λ c. search needs)
+    (λ c κs. search needs)
     returns
-    enum-told
+    (λ c. search needs)
     returns-2
-    enum-known-turn-2
+    (λ c. search needs)
     loop-less
     loop-again
-    refused-requires-2
+    (λ c κs. search needs)
     returns-3)

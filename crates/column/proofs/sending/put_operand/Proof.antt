@@ -49,18 +49,9 @@ checks-long c e = c .pre .1 ∙ rw (ne-eqb _ 1 e)
 abbrev start-one : tie.Then1 → tie.Start
 start-one c = c .before .before
 
-cast-size : tie.Need-cast-size
-cast-size c = search needs
-
-slice-aggregate-copy : tie.Need-slice-aggregate-copy
-slice-aggregate-copy c = search needs
-
 copy-requires : tie.Need-copy-requires
 copy-requires c κs =
     let one = c .before .before .before .before in omega (arith, own-room (start-one one), value-long (start-one one) (one .if1 .taken))
-
-same-length : tie.Need-same-length
-same-length c = search needs
 
 returns : tie.Need-returns
 unfolding who-in who-as settings-of settings value-size
@@ -78,17 +69,8 @@ returns c =
 abbrev start-else : tie.Else1 → tie.Start
 start-else c = c .before .before
 
-checked-requires : tie.Need-checked-requires
-checked-requires c κs = search needs
-
-slice-aggregate-put-checks : tie.Need-slice-aggregate-put-checks
-slice-aggregate-put-checks c = search needs
-
 put-checks-requires : tie.Need-put-checks-requires
 put-checks-requires c κs = let e = c .before .before .before in (fine (start-else e), search needs, checks-long (start-else e) (e .if1 .left))
-
-same-length-2 : tie.Need-same-length-2
-same-length-2 c = search needs
 
 returns-2 : tie.Need-returns-2
 unfolding who-in who-as settings-of settings
@@ -104,13 +86,13 @@ pub put-operand-spec : {M : Type 1} → statement M
 put-operand-spec =
     tie.close
     (tie.spec
-    cast-size
-    slice-aggregate-copy
+    (λ c. search needs)
+    (λ c. search needs)
     copy-requires
-    same-length
+    (λ c. search needs)
     returns
-    checked-requires
-    slice-aggregate-put-checks
+    (λ c κs. search needs)
+    (λ c. search needs)
     put-checks-requires
-    same-length-2
+    (λ c. search needs)
     returns-2)

@@ -17,27 +17,6 @@ abbrev μ-loop : tie.MeasureT-loop
 loop-holds : tie.Need-loop-holds Inv-loop μ-loop
 loop-holds c = (omega arith, row-put-none _ _ _ _ _ (c .before .pre .4))
 
-plane-of-requires : tie.Need-plane-of-requires Inv-loop μ-loop
-plane-of-requires c κs = omega arith
-
-mul-plane : tie.Need-mul-plane Inv-loop μ-loop
-mul-plane c = omega arith
-
-mul-plane-2 : tie.Need-mul-plane-2 Inv-loop μ-loop
-mul-plane-2 c = omega arith
-
-index-1-plane : tie.Need-index-1-plane Inv-loop μ-loop
-index-1-plane c = omega arith
-
-index-2-plane : tie.Need-index-2-plane Inv-loop μ-loop
-index-2-plane c = omega arith
-
-add-p : tie.Need-add-p Inv-loop μ-loop
-add-p c = omega arith
-
-loop-less : tie.Need-loop-less Inv-loop μ-loop
-loop-less c = omega arith
-
 loop-again : tie.Need-loop-again Inv-loop μ-loop
 loop-again c = (omega arith, row-put-more _ _ _ _ _ _ _ _ (c .before .before .loop .inv .1) (omega arith) (omega arith) (omega arith) (c .plane-of .ensures))
 
@@ -55,12 +34,12 @@ put-row-spec =
     Inv-loop
     μ-loop
     loop-holds
-    plane-of-requires
-    mul-plane
-    mul-plane-2
-    index-1-plane
-    index-2-plane
-    add-p
-    loop-less
+    (λ c κs. omega arith)
+    (λ c. omega arith)
+    (λ c. omega arith)
+    (λ c. omega arith)
+    (λ c. omega arith)
+    (λ c. omega arith)
+    (λ c. omega arith)
     loop-again
     returns)

@@ -11,18 +11,12 @@ use Rattle.grading.specs.Count.{better-by}
 use Rattle.counting.proofs.table.is_better.Statement.{statement}
 use Rattle.counting.proofs.table.is_better.Tie as tie
 
-is-blank-requires : tie.Need-is-blank-requires
-is-blank-requires c κs = search needs
-
 returns : tie.Need-returns
 unfolding better-by
 returns c =
     let a = c .before .before .before .args in
     let blank : is-blank (take (a .w) (a .a .value)) ≡ true = sym (c .before .is-blank .ensures) ∙ c .if1 .taken in
     rw blank
-
-is-blank-requires-2 : tie.Need-is-blank-requires-2
-is-blank-requires-2 c κs = search needs
 
 returns-2 : tie.Need-returns-2
 unfolding better-by
@@ -60,9 +54,6 @@ returns-4 c =
       ne-eqb (a .best .times) (a .a .times) (λ e. absurd (omega (arith, c .if4 .taken))),
     )
 
-is-before-requires : tie.Need-is-before-requires
-is-before-requires c κs = search needs
-
 returns-5 : tie.Need-returns-5
 returns-5 c =
     let no-more = c .before .before .before .before in
@@ -79,11 +70,11 @@ pub is-better-spec : {M : Type 1} → statement M
 is-better-spec =
     tie.close
     (tie.spec
-    is-blank-requires
+    (λ c κs. search needs)
     returns
-    is-blank-requires-2
+    (λ c κs. search needs)
     returns-2
     returns-3
     returns-4
-    is-before-requires
+    (λ c κs. search needs)
     returns-5)

@@ -31,12 +31,6 @@ loop-holds c =
 next-best-requires : tie.Need-next-best-requires Inv-loop μ-loop
 next-best-requires c κs = (omega arith, omega arith, omega arith, omega arith, c .before .loop .inv .1)
 
-add-i : tie.Need-add-i Inv-loop μ-loop
-add-i c = omega arith
-
-loop-less : tie.Need-loop-less Inv-loop μ-loop
-loop-less c = omega arith
-
 loop-again : tie.Need-loop-again Inv-loop μ-loop
 loop-again c =
     let l = c .before .before .loop in
@@ -57,4 +51,4 @@ returns c =
 pub most-found-spec : {M : Type 1} → statement M
 most-found-spec =
     tie.close
-    (tie.spec Inv-loop μ-loop loop-holds next-best-requires add-i loop-less loop-again returns)
+    (tie.spec Inv-loop μ-loop loop-holds next-best-requires (λ c. omega arith) (λ c. omega arith) loop-again returns)

@@ -11,32 +11,17 @@ use Rattle.counting.proofs.Best.{next-same, next-blank, better-counted,
 use Rattle.counting.proofs.table.next_best.Statement.{statement}
 use Rattle.counting.proofs.table.next_best.Tie as tie
 
-value-at-requires : tie.Need-value-at-requires
-value-at-requires c κs = search needs
-
-is-same-requires : tie.Need-is-same-requires
-is-same-requires c κs = search needs
-
 returns : tie.Need-returns
 returns c =
     let d = c .before .before .before in
     let e = rw (d .value-at .ensures .reads) at (sym (c .before .is-same .ensures) ∙ c .if1 .taken) in
     rw (next-same _ _ _ _ e) (d .before .pre .4)
 
-is-blank-requires : tie.Need-is-blank-requires
-is-blank-requires c κs = search needs
-
 returns-2 : tie.Need-returns-2
 returns-2 c =
     let d = c .before .before .before .before .before in
     let e = rw (d .value-at .ensures .reads) at (sym (c .before .is-blank .ensures) ∙ c .if2 .taken) in
     rw (next-blank _ _ _ _ e) (d .before .pre .4)
-
-times-found-requires : tie.Need-times-found-requires
-times-found-requires c κs = search needs
-
-is-better-requires : tie.Need-is-better-requires
-is-better-requires c κs = search needs
 
 -- the value counted, against the best so far
 abbrev valued : tie.After-is-better → tie.After-value-at
@@ -67,12 +52,12 @@ pub next-best-spec : {M : Type 1} → statement M
 next-best-spec =
     tie.close
     (tie.spec
-    value-at-requires
-    is-same-requires
+    (λ c κs. search needs)
+    (λ c κs. search needs)
     returns
-    is-blank-requires
+    (λ c κs. search needs)
     returns-2
-    times-found-requires
-    is-better-requires
+    (λ c κs. search needs)
+    (λ c κs. search needs)
     returns-3
     returns-4)

@@ -21,30 +21,6 @@ loop-holds : tie.Need-loop-holds Inv-loop μ-loop
 unfolding padded in-front entries
 loop-holds c = (omega arith, refl)
 
-mul-value : tie.Need-mul-value Inv-loop μ-loop
-mul-value c = omega arith
-
-mul-value-2 : tie.Need-mul-value-2 Inv-loop μ-loop
-mul-value-2 c = omega arith
-
-index-1-value : tie.Need-index-1-value Inv-loop μ-loop
-index-1-value c = omega arith
-
-index-2-value : tie.Need-index-2-value Inv-loop μ-loop
-index-2-value c = omega arith
-
-index-3-value : tie.Need-index-3-value Inv-loop μ-loop
-index-3-value c = omega arith
-
-array-write-value : tie.Need-array-write-value Inv-loop μ-loop
-array-write-value c = omega arith
-
-add-p : tie.Need-add-p Inv-loop μ-loop
-add-p c = omega arith
-
-loop-less : tie.Need-loop-less Inv-loop μ-loop
-loop-less c = omega arith
-
 loop-again : tie.Need-loop-again Inv-loop μ-loop
 unfolding byte-in
 loop-again c = let l = c .before .before .loop in (omega arith, rw (l .inv .1) (padded-entry value-room (l .p) _ _ (omega arith) refl))
@@ -63,13 +39,13 @@ value-at-spec =
     Inv-loop
     μ-loop
     loop-holds
-    mul-value
-    mul-value-2
-    index-1-value
-    index-2-value
-    index-3-value
-    array-write-value
-    add-p
-    loop-less
+    (λ c. omega arith)
+    (λ c. omega arith)
+    (λ c. omega arith)
+    (λ c. omega arith)
+    (λ c. omega arith)
+    (λ c. omega arith)
+    (λ c. omega arith)
+    (λ c. omega arith)
     loop-again
     returns)

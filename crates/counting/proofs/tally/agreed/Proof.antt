@@ -23,12 +23,6 @@ abbrev μ-loop : tie.MeasureT-loop
 loop-holds : tie.Need-loop-holds Inv-loop μ-loop
 loop-holds c = (omega arith, placed-none _ _ _ refl)
 
-agreed-at-requires : tie.Need-agreed-at-requires Inv-loop μ-loop
-agreed-at-requires c κs = omega arith
-
-array-share-prefix-value : tie.Need-array-share-prefix-value Inv-loop μ-loop
-array-share-prefix-value c = omega arith
-
 -- the value's bytes
 abbrev turn : tie.After-agreed-at Inv-loop μ-loop → tie.At-loop Inv-loop μ-loop
 turn c = c .before .before .before
@@ -41,12 +35,6 @@ slice-aggregate-put-value c = sym (size (c .before .before))
 
 put-value-requires : tie.Need-put-value-requires Inv-loop μ-loop
 put-value-requires c κs = let l = size (c .before .before) in (omega arith, omega arith, turn (c .before .before) .loop .inv .1 .long)
-
-add-k : tie.Need-add-k Inv-loop μ-loop
-add-k c = omega arith
-
-loop-less : tie.Need-loop-less Inv-loop μ-loop
-loop-less c = omega arith
 
 loop-again : tie.Need-loop-again Inv-loop μ-loop
 loop-again c =
@@ -68,11 +56,11 @@ agreed-spec =
     Inv-loop
     μ-loop
     loop-holds
-    agreed-at-requires
-    array-share-prefix-value
+    (λ c κs. omega arith)
+    (λ c. omega arith)
     slice-aggregate-put-value
     put-value-requires
-    add-k
-    loop-less
+    (λ c. omega arith)
+    (λ c. omega arith)
     loop-again
     returns)

@@ -8,12 +8,6 @@ use Rattle.counting.proofs.Best.{agreed-often, agreed-seldom}
 use Rattle.counting.proofs.tally.agreed_at.Statement.{statement}
 use Rattle.counting.proofs.tally.agreed_at.Tie as tie
 
-most-found-requires : tie.Need-most-found-requires
-most-found-requires c κs = search needs
-
-sub-if1 : tie.Need-sub-if1
-sub-if1 c = search needs
-
 returns : tie.Need-returns
 returns c =
     let m = c .before .before .most-found in
@@ -27,4 +21,4 @@ returns-2 c =
     agreed-often _ _ _ _ _ (m .result) (m .ensures) long (omega arith) (omega (arith, c .before .if1 .left))
 
 pub agreed-at-spec : {M : Type 1} → statement M
-agreed-at-spec = tie.close (tie.spec most-found-requires sub-if1 returns returns-2)
+agreed-at-spec = tie.close (tie.spec (λ c κs. search needs) (λ c. search needs) returns returns-2)

@@ -29,9 +29,6 @@ loop-holds : tie.Need-loop-holds Inv-loop μ-loop
 unfolding padded in-front entries
 loop-holds c = (omega arith, placed-none _ _ _ refl, refl)
 
-held-at-requires : tie.Need-held-at-requires Inv-loop μ-loop
-held-at-requires c κs = omega arith
-
 array-share-prefix-value : tie.Need-array-share-prefix-value Inv-loop μ-loop
 array-share-prefix-value c = let long : length (c .before .before .held-at .result .value) ≡ value-room = search needs in omega arith
 
@@ -47,15 +44,6 @@ slice-aggregate-put-value c = sym (size (c .before .before .before))
 
 put-value-requires : tie.Need-put-value-requires Inv-loop μ-loop
 put-value-requires c κs = let d = c .before .before .before in let l = size d in (omega arith, omega arith, turn d .loop .inv .1 .long)
-
-array-write-confidences : tie.Need-array-write-confidences Inv-loop μ-loop
-array-write-confidences c = omega arith
-
-add-k : tie.Need-add-k Inv-loop μ-loop
-add-k c = omega arith
-
-loop-less : tie.Need-loop-less Inv-loop μ-loop
-loop-less c = omega arith
 
 loop-again : tie.Need-loop-again Inv-loop μ-loop
 loop-again c =
@@ -82,12 +70,12 @@ held-spec =
     Inv-loop
     μ-loop
     loop-holds
-    held-at-requires
+    (λ c κs. omega arith)
     array-share-prefix-value
     slice-aggregate-put-value
     put-value-requires
-    array-write-confidences
-    add-k
-    loop-less
+    (λ c. omega arith)
+    (λ c. omega arith)
+    (λ c. omega arith)
     loop-again
     returns)

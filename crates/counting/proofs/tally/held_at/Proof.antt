@@ -9,20 +9,11 @@ use Rattle.counting.proofs.Best.{held-blank, held-often, held-some, hel
 use Rattle.counting.proofs.tally.held_at.Statement.{statement}
 use Rattle.counting.proofs.tally.held_at.Tie as tie
 
-most-found-requires : tie.Need-most-found-requires
-most-found-requires c κs = search needs
-
-is-blank-requires : tie.Need-is-blank-requires
-is-blank-requires c κs = search needs
-
 returns : tie.Need-returns
 returns c =
     let m = c .before .before .before .most-found in
     let long : length (m .result .value) ≡ value-room = search needs in
     held-blank _ _ _ _ _ (m .result) (m .ensures) long (omega arith) (sym (c .before .is-blank .ensures) ∙ c .if1 .taken)
-
-mul-if2 : tie.Need-mul-if2
-mul-if2 c = search needs
 
 returns-2 : tie.Need-returns-2
 returns-2 c =
@@ -48,4 +39,4 @@ returns-4 c =
 pub held-at-spec : {M : Type 1} → statement M
 held-at-spec =
     tie.close
-    (tie.spec most-found-requires is-blank-requires returns mul-if2 returns-2 returns-3 returns-4)
+    (tie.spec (λ c κs. search needs) (λ c κs. search needs) returns (λ c. search needs) returns-2 returns-3 returns-4)

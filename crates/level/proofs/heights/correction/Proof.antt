@@ -20,21 +20,6 @@ own-height own = height-of (take 4 own) _ _ _ _ (at 0 (omega arith)) (at 1 (omeg
     at : (p : ℕ) → p < 4 → getD own p 0 ≡ getD (take 4 own) p 0
     at p h = sym (getD-take 4 own p 0 h)
 
-array-read-height : tie.Need-array-read-height
-array-read-height c = search needs
-
-array-read-height-2 : tie.Need-array-read-height-2
-array-read-height-2 c = search needs
-
-array-read-height-3 : tie.Need-array-read-height-3
-array-read-height-3 c = search needs
-
-array-read-height-4 : tie.Need-array-read-height-4
-array-read-height-4 c = search needs
-
-height-requires : tie.Need-height-requires
-height-requires c κs = tt
-
 sub-result : tie.Need-sub-result
 sub-result c =
     let level = stored (c .before .args .level) (omega arith) in
@@ -52,10 +37,10 @@ pub correction-spec : {M : Type 1} → statement M
 correction-spec =
     tie.close
     (tie.spec
-    array-read-height
-    array-read-height-2
-    array-read-height-3
-    array-read-height-4
-    height-requires
+    (λ c. search needs)
+    (λ c. search needs)
+    (λ c. search needs)
+    (λ c. search needs)
+    (λ c κs. tt)
     sub-result
     returns)

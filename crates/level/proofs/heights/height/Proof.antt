@@ -6,9 +6,6 @@ use native.Mathlib.Omega.{arith}
 use Rattle.level.proofs.heights.height.Statement.{statement}
 use Rattle.level.proofs.heights.height.Tie as tie
 
-bits-requires : tie.Need-bits-requires
-bits-requires c κs = tt
-
 signed-requires : tie.Need-signed-requires
 signed-requires c κs = c .bits .ensures .1
 
@@ -19,4 +16,4 @@ returns c =
     rw (stored (c .signed .result) (omega arith)) (read .0 ∙ ap signed (c .before .bits .ensures .0), read .1)
 
 pub height-spec : {M : Type 1} → statement M
-height-spec = tie.close (tie.spec bits-requires signed-requires returns)
+height-spec = tie.close (tie.spec (λ c κs. tt) signed-requires returns)

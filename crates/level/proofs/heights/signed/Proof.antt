@@ -8,9 +8,6 @@ use Rattle.level.proofs.Integers.{mag-difference, stored, signed-low, s
 use Rattle.level.proofs.heights.signed.Statement.{statement}
 use Rattle.level.proofs.heights.signed.Tie as tie
 
-cast-number : tie.Need-cast-number
-cast-number c = search needs
-
 returns : tie.Need-returns
 returns c =
     let b = c .before .args .bits in
@@ -27,4 +24,4 @@ returns-2 c =
     rw (toZ-ofZ (sub-result c), stored (pos b) (omega arith)) (sym e, rw e at (signed-short b (omega arith)))
 
 pub signed-spec : {M : Type 1} → statement M
-signed-spec = tie.close (tie.spec cast-number returns sub-result returns-2)
+signed-spec = tie.close (tie.spec (λ c. search needs) returns sub-result returns-2)

@@ -26,12 +26,6 @@ headed : (c : tie.Else1) → short-refusal (start-at-one c .args .frame .now) �
 unfolding short-refusal
 headed c = line-passed 9 _ (le-ltb _ 4 (c .if1 .left))
 
-shared-slice-read-command-round : tie.Need-shared-slice-read-command-round
-shared-slice-read-command-round c = omega arith
-
-command-round-requires : tie.Need-command-round-requires
-command-round-requires c κs = search needs
-
 returns-2 : tie.Need-returns-2
 unfolding frame-refusal command-refusal round-in
 returns-2 c =
@@ -75,9 +69,6 @@ unfolding length-refusal
 sized c =
     line-passed 11 _ (ap not (eq-eqb _ _ (c .if3 .left ∙ c .before .frame-size .ensures .0 ∙ ap (frame-size _) (round-read (two-at-three c)))))
 
-shared-slice-read-sender : tie.Need-shared-slice-read-sender
-shared-slice-read-sender c = omega arith
-
 cast-sender : tie.Need-cast-sender
 cast-sender c = omega (arith, c .shared-slice-known3 .given 1)
 
@@ -109,18 +100,6 @@ three-at-four c = c .before .before
 same-sender : (c : tie.Else4) → sender-refusal (start-at-two (two-at-three (three-at-four c)) .args .slot) (start-at-two (two-at-three (three-at-four c)) .args .frame .now) ≡ 0
 unfolding sender-refusal sender-in
 same-sender c = line-passed 12 _ (ap not (eq-eqb _ _ (c .if4 .left)))
-
-shared-slice-read-run-number : tie.Need-shared-slice-read-run-number
-shared-slice-read-run-number c = omega arith
-
-shared-slice-read-run-number-2 : tie.Need-shared-slice-read-run-number-2
-shared-slice-read-run-number-2 c = omega arith
-
-run-number-requires : tie.Need-run-number-requires
-run-number-requires c κs = search needs
-
-cast-if5 : tie.Need-cast-if5
-cast-if5 c = search needs
 
 returns-5 : tie.Need-returns-5
 unfolding run-refusal run-in
@@ -184,18 +163,18 @@ frame-refusal-spec =
     tie.close
     (tie.spec
     returns
-    shared-slice-read-command-round
-    command-round-requires
+    (λ c. omega arith)
+    (λ c κs. search needs)
     returns-2
     frame-size-requires
     returns-3
-    shared-slice-read-sender
+    (λ c. omega arith)
     cast-sender
     returns-4
-    shared-slice-read-run-number
-    shared-slice-read-run-number-2
-    run-number-requires
-    cast-if5
+    (λ c. omega arith)
+    (λ c. omega arith)
+    (λ c κs. search needs)
+    (λ c. search needs)
     returns-5
     returns-6
     returns-7

@@ -14,12 +14,9 @@ operand-size-requires : tie.Need-operand-size-requires
 unfolding settings-of settings
 operand-size-requires c κs = let s = sizes _ (c .pre) in (omega (arith, s .few-columns, s .few-bad), s .few-bytes)
 
-add-result : tie.Need-add-result
-add-result c = search needs
-
 returns : tie.Need-returns
 unfolding frame-size operand-size settings-of settings value-size check-count
 returns c = (ap (λ (k : ℕ). header-size + k) (c .operand-size .ensures .0), omega (arith, c .operand-size .ensures .1))
 
 pub frame-size-spec : {M : Type 1} → statement M
-frame-size-spec = tie.close (tie.spec operand-size-requires add-result returns)
+frame-size-spec = tie.close (tie.spec operand-size-requires (λ c. search needs) returns)

@@ -12,9 +12,6 @@ returns : tie.Need-returns
 unfolding operand-size value-size settings
 returns c = (simp (eq-eqb (c .before .args .round) 1 (c .if1 .taken)), omega arith)
 
-mul-result : tie.Need-mul-result
-mul-result c = search needs
-
 mul-result-2 : tie.Need-mul-result-2
 mul-result-2 c = let s = c .before in omega (arith, checks-fit (s .args .t) (s .args .w) (s .pre .0) (s .pre .1))
 
@@ -26,4 +23,4 @@ unfolding operand-size check-count value-size settings
 returns-2 c = let s = c .before in (simp (ne-eqb (s .args .round) 1 (c .if1 .left)), checks-fit (s .args .t) (s .args .w) (s .pre .0) (s .pre .1))
 
 pub operand-size-spec : {M : Type 1} → statement M
-operand-size-spec = tie.close (tie.spec returns mul-result mul-result-2 cast-result returns-2)
+operand-size-spec = tie.close (tie.spec returns (λ c. search needs) mul-result-2 cast-result returns-2)

@@ -9,29 +9,11 @@ use Rattle.record.specs.Frame.{command, header}
 use Rattle.record.proofs.frames.put_header.Statement.{statement}
 use Rattle.record.proofs.frames.put_header.Tie as tie
 
-mul-buffer : tie.Need-mul-buffer
-mul-buffer c = omega arith
-
-cast-buffer : tie.Need-cast-buffer
-cast-buffer c = omega arith
-
-slice-write-buffer : tie.Need-slice-write-buffer
-slice-write-buffer c = omega arith
-
-cast-buffer-2 : tie.Need-cast-buffer-2
-cast-buffer-2 c = omega arith
-
 slice-write-buffer-2 : tie.Need-slice-write-buffer-2
 slice-write-buffer-2 c = simp length-set (omega arith)
 
-cast-buffer-3 : tie.Need-cast-buffer-3
-cast-buffer-3 c = omega arith
-
 slice-write-buffer-3 : tie.Need-slice-write-buffer-3
 slice-write-buffer-3 c = simp length-set (omega arith)
-
-cast-buffer-4 : tie.Need-cast-buffer-4
-cast-buffer-4 c = omega arith
 
 slice-write-buffer-4 : tie.Need-slice-write-buffer-4
 slice-write-buffer-4 c = simp length-set (omega arith)
@@ -49,14 +31,14 @@ pub put-header-spec : {M : Type 1} → statement M
 put-header-spec =
     tie.close
     (tie.spec
-    mul-buffer
-    cast-buffer
-    slice-write-buffer
-    cast-buffer-2
+    (λ c. omega arith)
+    (λ c. omega arith)
+    (λ c. omega arith)
+    (λ c. omega arith)
     slice-write-buffer-2
-    cast-buffer-3
+    (λ c. omega arith)
     slice-write-buffer-3
-    cast-buffer-4
+    (λ c. omega arith)
     slice-write-buffer-4
     same-length
     returns)

@@ -7,9 +7,6 @@ use Rattle.record.proofs.Refusal.{first-of-here, first-of-next, first-o
 use Rattle.record.proofs.refusals.ask_refusal.Statement.{statement}
 use Rattle.record.proofs.refusals.ask_refusal.Tie as tie
 
-record-refusal-requires : tie.Need-record-refusal-requires
-record-refusal-requires c κs = search needs
-
 returns : tie.Need-returns
 returns c = sym (first-of-here _ (sym (c .before .record-refusal .ensures)) (c .if1 .taken))
 
@@ -28,4 +25,4 @@ returns-3 c =
     sym (first-of-next _ (sym (c .before .before .record-refusal .ensures) ∙ c .before .if1 .left) (first-of-last _ ∙ finished))
 
 pub ask-refusal-spec : {M : Type 1} → statement M
-ask-refusal-spec = tie.close (tie.spec record-refusal-requires returns returns-2 returns-3)
+ask-refusal-spec = tie.close (tie.spec (λ c κs. search needs) returns returns-2 returns-3)

@@ -8,9 +8,6 @@ use Rattle.record.proofs.Refusal.{first-of-here, first-of-next, first-o
 use Rattle.record.proofs.refusals.close_refusal.Statement.{statement}
 use Rattle.record.proofs.refusals.close_refusal.Tie as tie
 
-record-refusal-requires : tie.Need-record-refusal-requires
-record-refusal-requires c κs = search needs
-
 returns : tie.Need-returns
 returns c = sym (first-of-here _ (sym (c .before .record-refusal .ensures)) (c .if1 .taken))
 
@@ -36,4 +33,4 @@ returns-4 c =
     sym (first-of-next _ (sym (c .before .before .before .record-refusal .ensures) ∙ c .before .before .if1 .left) (first-of-last _ ∙ inside))
 
 pub close-refusal-spec : {M : Type 1} → statement M
-close-refusal-spec = tie.close (tie.spec record-refusal-requires returns returns-2 returns-3 returns-4)
+close-refusal-spec = tie.close (tie.spec (λ c κs. search needs) returns returns-2 returns-3 returns-4)

@@ -13,9 +13,6 @@ use Rattle.grading.proofs.Value.{all-zero-blank}
 use Rattle.record.proofs.refusals.open_refusal.Statement.{statement}
 use Rattle.record.proofs.refusals.open_refusal.Tie as tie
 
-group-refusal-requires : tie.Need-group-refusal-requires
-group-refusal-requires c κs = search needs
-
 -- the group's lines, then the own value's
 abbrev refusal : tie.Start → ℕ
 refusal c = let a = c .args in open-refusal (settings (a .n) (a .t) (a .w)) (a .number) (a .own .now)
@@ -37,9 +34,6 @@ returns-2 c =
     let size : size-refusal (a .w) (a .own .now) ≡ 5 = simp (ne-eqb _ _ (c .if2 .taken)) in
     sym (grouped (c .before .before) ∙ first-of-next _ (c .before .if1 .left) (first-of-here _ size (λ z. omega arith)))
 
-is-zero-requires : tie.Need-is-zero-requires
-is-zero-requires c κs = search needs
-
 valued : (c : tie.After-is-zero) (q : Bool) → c .is-zero .result ≡ q → line 6 q ≡ refusal (c .before .before .before .before .before)
 unfolding size-refusal blank-refusal line
 valued c q e =
@@ -57,4 +51,4 @@ unfolding line
 returns-4 c = valued (c .before) false (c .if3 .left)
 
 pub open-refusal-spec : {M : Type 1} → statement M
-open-refusal-spec = tie.close (tie.spec group-refusal-requires returns returns-2 is-zero-requires returns-3 returns-4)
+open-refusal-spec = tie.close (tie.spec (λ c κs. search needs) returns returns-2 (λ c κs. search needs) returns-3 returns-4)

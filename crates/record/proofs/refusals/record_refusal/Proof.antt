@@ -18,9 +18,6 @@ use Rattle.record.proofs.Refusal.{first-of-zero, first-of-here, first-o
 use Rattle.record.proofs.refusals.record_refusal.Statement.{statement}
 use Rattle.record.proofs.refusals.record_refusal.Tie as tie
 
-group-refusal-requires : tie.Need-group-refusal-requires
-group-refusal-requires c κs = search needs
-
 -- the group's lines, then the own value's
 grouped :
     (c : tie.After-group-refusal) →
@@ -30,9 +27,6 @@ grouped c = first-of-known (_ ∷ _ ∷ []) _ (c .group-refusal .ensures)
 
 returns : tie.Need-returns
 returns c = sym (grouped (c .before) ∙ first-of-here _ refl (c .if1 .taken))
-
-cast-size : tie.Need-cast-size
-cast-size c = search needs
 
 -- past the group's, the own value has room in its array
 room : (c : tie.Else1) → (let i = c .before .before .args .who in i .w ≤ length (i .own))
@@ -47,9 +41,6 @@ array-share-prefix-own c = room (c .before .before)
 
 slice-aggregate-is-zero : tie.Need-slice-aggregate-is-zero
 slice-aggregate-is-zero c = sym (length-take-le _ _ (room (c .before .before .before)))
-
-is-zero-requires : tie.Need-is-zero-requires
-is-zero-requires c κs = search needs
 
 abbrev past : tie.After-is-zero → tie.Else1
 past c = c .before .before .before .before
@@ -72,11 +63,11 @@ pub record-refusal-spec : {M : Type 1} → statement M
 record-refusal-spec =
     tie.close
     (tie.spec
-    group-refusal-requires
+    (λ c κs. search needs)
     returns
-    cast-size
+    (λ c. search needs)
     array-share-prefix-own
     slice-aggregate-is-zero
-    is-zero-requires
+    (λ c κs. search needs)
     returns-2
     returns-3)

@@ -11,9 +11,6 @@ use Rattle.record.proofs.Refusal.{first-of-here, first-of-next, first-o
 use Rattle.record.proofs.refusals.slot_refusal.Statement.{statement}
 use Rattle.record.proofs.refusals.slot_refusal.Tie as tie
 
-close-refusal-requires : tie.Need-close-refusal-requires
-close-refusal-requires c κs = search needs
-
 -- the lines of closing, then the slot's
 abbrev refusal : tie.Start → ℕ
 refusal c =
@@ -51,4 +48,4 @@ returns-5 c =
     past e 0 (simp (le-leb 1 (a .slot) (omega arith), le-leb (a .slot) (a .who .n) (omega arith), ne-eqb (a .slot) (a .who .number) (c .if4 .left)))
 
 pub slot-refusal-spec : {M : Type 1} → statement M
-slot-refusal-spec = tie.close (tie.spec close-refusal-requires returns returns-2 returns-3 returns-4 returns-5)
+slot-refusal-spec = tie.close (tie.spec (λ c κs. search needs) returns returns-2 returns-3 returns-4 returns-5)

@@ -10,12 +10,6 @@ use Rattle.record.specs.declared.Slot.{Slot}
 use Rattle.record.proofs.slots.filled.Statement.{statement}
 use Rattle.record.proofs.slots.filled.Tie as tie
 
-slice-aggregate-copy : tie.Need-slice-aggregate-copy
-slice-aggregate-copy c = search needs
-
-copy-requires : tie.Need-copy-requires
-copy-requires c κs = search needs
-
 returns : tie.Need-returns
 unfolding frame-slot padded
 returns c =
@@ -23,4 +17,4 @@ returns c =
     ap (λ (bs : List ℕ). (let s : Slot = record { taken = 1; bytes = bs } in s)) (copied _ (s .args .frame .now) _ _ refl (s .pre) (c .before .copy .ensures))
 
 pub filled-spec : {M : Type 1} → statement M
-filled-spec = tie.close (tie.spec slice-aggregate-copy copy-requires returns)
+filled-spec = tie.close (tie.spec (λ c. search needs) (λ c κs. search needs) returns)

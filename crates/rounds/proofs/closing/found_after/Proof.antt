@@ -48,9 +48,6 @@ start c = c .before .before .before .before .before
 later : (c : tie.Else1) → 2 ≤ start c .args .column .round
 later c = omega (arith, rounds (start c), c .if1 .left)
 
-checked-requires : tie.Need-checked-requires
-checked-requires c κs = search needs
-
 table-requires : tie.Need-table-requires
 table-requires c κs = (fine (start (c .before)), later (c .before))
 
@@ -66,15 +63,6 @@ rows-are c bytes e =
     let a = start (else-at c) .args .column in
     subst (λ (bs : List ℕ). Table (inbox (a .who) (a .round) (a .slots)) (values-in (settings-of (a .who)) (a .who .n) bs) (rows-in (a .who .n) (a .who .w) (c .table .result)))
     (c .before .checked .ensures ∙ e) (c .table .ensures)
-
-cast-n : tie.Need-cast-n
-cast-n c = search needs
-
-cast-t : tie.Need-cast-t
-cast-t c = search needs
-
-cast-w : tie.Need-cast-w
-cast-w c = search needs
 
 -- round two
 abbrev table-two : tie.Then2 → tie.After-table
@@ -115,11 +103,11 @@ found-after-spec =
     (tie.spec
     heard-requires
     returns
-    checked-requires
+    (λ c κs. search needs)
     table-requires
-    cast-n
-    cast-t
-    cast-w
+    (λ c. search needs)
+    (λ c. search needs)
+    (λ c. search needs)
     agreed-requires
     returns-2
     held-requires

@@ -38,18 +38,6 @@ cast-number c = omega (arith, inside _ (c .before .before .before .pre))
 loop-holds : tie.Need-loop-holds Inv-loop μ-loop
 loop-holds c = let i = inside _ (c .before .before .before .pre) in (omega arith, i .few-columns, i .few-bytes, placed-none _ _ _ refl)
 
-mul-slot : tie.Need-mul-slot Inv-loop μ-loop
-mul-slot c = omega arith
-
-array-copy-out-slot : tie.Need-array-copy-out-slot Inv-loop μ-loop
-array-copy-out-slot c = omega arith
-
-add-heard-at : tie.Need-add-heard-at Inv-loop μ-loop
-add-heard-at c = omega arith
-
-heard-at-requires : tie.Need-heard-at-requires Inv-loop μ-loop
-heard-at-requires c κs = omega arith
-
 array-share-prefix-value : tie.Need-array-share-prefix-value Inv-loop μ-loop
 array-share-prefix-value c = let long : length (c .before .heard-at .result) ≡ value-room = search needs in omega arith
 
@@ -70,12 +58,6 @@ slice-aggregate-put-value c = sym (size (c .before .before))
 put-value-requires : tie.Need-put-value-requires Inv-loop μ-loop
 put-value-requires c κs =
     let l = size (c .before .before) in (omega arith, omega arith, turn (c .before .before) .loop .inv .3 .long)
-
-add-k : tie.Need-add-k Inv-loop μ-loop
-add-k c = omega arith
-
-loop-less : tie.Need-loop-less Inv-loop μ-loop
-loop-less c = omega arith
 
 loop-again : tie.Need-loop-again Inv-loop μ-loop
 loop-again c =
@@ -105,14 +87,14 @@ heard-spec =
     cast-w
     cast-number
     loop-holds
-    mul-slot
-    array-copy-out-slot
-    add-heard-at
-    heard-at-requires
+    (λ c. omega arith)
+    (λ c. omega arith)
+    (λ c. omega arith)
+    (λ c κs. omega arith)
     array-share-prefix-value
     slice-aggregate-put-value
     put-value-requires
-    add-k
-    loop-less
+    (λ c. omega arith)
+    (λ c. omega arith)
     loop-again
     returns)

@@ -33,15 +33,6 @@ start c = c .before .before .before
 bytes-long : (c : tie.Start) → length (c .args .slot .bytes) ≡ longest-frame
 bytes-long c = search needs
 
-slice-aggregate-copy : tie.Need-slice-aggregate-copy
-slice-aggregate-copy c = search needs
-
-slice-aggregate-copy-2 : tie.Need-slice-aggregate-copy-2
-slice-aggregate-copy-2 c = search needs
-
-cast-copy : tie.Need-cast-copy
-cast-copy c = search needs
-
 copy-requires : tie.Need-copy-requires
 copy-requires c κs = omega (arith, bytes-long (start (c .before .before .before .before)))
 
@@ -59,4 +50,4 @@ returns-3 c =
     ∙ front-value _ _ w (length-take-le w (drop header-size bytes) (omega (arith, length-drop header-size bytes))))
 
 pub heard-at-spec : {M : Type 1} → statement M
-heard-at-spec = tie.close (tie.spec returns returns-2 slice-aggregate-copy slice-aggregate-copy-2 cast-copy copy-requires returns-3)
+heard-at-spec = tie.close (tie.spec returns returns-2 (λ c. search needs) (λ c. search needs) (λ c. search needs) copy-requires returns-3)

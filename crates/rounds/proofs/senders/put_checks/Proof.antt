@@ -24,12 +24,6 @@ part-long c = length-take-le _ _ (omega (arith, start c .pre .1))
 slice-aggregate-check-values : tie.Need-slice-aggregate-check-values
 slice-aggregate-check-values c = sym (part-long (c .before))
 
-check-values-requires : tie.Need-check-values-requires
-check-values-requires c κs = search needs
-
-same-length : tie.Need-same-length
-same-length c = search needs
-
 returns : tie.Need-returns
 returns c =
     let z = c .before .before .before .before .before in
@@ -39,4 +33,4 @@ returns c =
     (c .before .before .check-values .ensures)
 
 pub put-checks-spec : {M : Type 1} → statement M
-put-checks-spec = tie.close (tie.spec vector-size-requires slice-aggregate-check-values check-values-requires same-length returns)
+put-checks-spec = tie.close (tie.spec vector-size-requires slice-aggregate-check-values (λ c κs. search needs) (λ c. search needs) returns)

@@ -35,9 +35,6 @@ operand-size-requires : tie.Need-operand-size-requires
 unfolding coded-settings settings
 operand-size-requires c κs = let z = few (c .before .before .before) in (omega arith, z .few-bytes)
 
-add-end : tie.Need-add-end
-add-end c = search needs
-
 -- the sizes worked out: vector, checks and frame have them
 abbrev start : tie.After-operand-size → tie.Start
 start c = c .before .before .before .before
@@ -70,23 +67,11 @@ array-share-prefix-own-checks c = held (sized (c .before)) .checks
 slice-aggregate-repair-by-2 : tie.Need-slice-aggregate-repair-by-2
 slice-aggregate-repair-by-2 c = sym (length-take-le _ _ (held (sized (c .before .before)) .checks))
 
-sub-repair-by : tie.Need-sub-repair-by
-sub-repair-by c = omega arith
-
-part-repair-by-start : tie.Need-part-repair-by-start
-part-repair-by-start c = omega arith
-
 part-repair-by-end : tie.Need-part-repair-by-end
 part-repair-by-end c = omega (arith, held (sized (c .before .before .before)))
 
-array-borrow-prefix-row : tie.Need-array-borrow-prefix-row
-array-borrow-prefix-row c = search needs
-
 slice-aggregate-repair-by-3 : tie.Need-slice-aggregate-repair-by-3
 slice-aggregate-repair-by-3 c = sym (length-take-le _ _ (search needs))
-
-repair-by-requires : tie.Need-repair-by-requires
-repair-by-requires c κs = tt
 
 returns-2 : tie.Need-returns-2
 unfolding Slot-row coded-settings coded-vector settings operand-size check-count value-size operand-in
@@ -114,15 +99,15 @@ repaired-spec =
     returns
     vector-size-requires
     operand-size-requires
-    add-end
+    (λ c. search needs)
     array-share-prefix-vector
     slice-aggregate-repair-by
     array-share-prefix-own-checks
     slice-aggregate-repair-by-2
-    sub-repair-by
-    part-repair-by-start
+    (λ c. omega arith)
+    (λ c. omega arith)
     part-repair-by-end
-    array-borrow-prefix-row
+    (λ c. search needs)
     slice-aggregate-repair-by-3
-    repair-by-requires
+    (λ c κs. tt)
     returns-2)

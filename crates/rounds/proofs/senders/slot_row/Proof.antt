@@ -9,11 +9,8 @@ returns : tie.Need-returns
 unfolding Slot-row coded-vector
 returns c = rw (c .before .if1 .taken) refl
 
-repaired-requires : tie.Need-repaired-requires
-repaired-requires c κs = search needs
-
 returns-2 : tie.Need-returns-2
 returns-2 c = rw (c .before .if1 .left) (c .repaired .ensures)
 
 pub slot-row-spec : {M : Type 1} → statement M
-slot-row-spec = tie.close (tie.spec returns repaired-requires returns-2)
+slot-row-spec = tie.close (tie.spec returns (λ c κs. search needs) returns-2)

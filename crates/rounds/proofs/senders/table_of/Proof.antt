@@ -37,15 +37,6 @@ unfolding coded-settings settings
 loop-holds c =
     let few = sizes _ (c .before .before .pre .fine) in (omega arith, few .few-columns, few .few-bytes, shape-zeros, λ j h. absurd (omega arith))
 
-mul-slot : tie.Need-mul-slot Inv-loop μ-loop
-mul-slot c = omega arith
-
-array-copy-out-slot : tie.Need-array-copy-out-slot Inv-loop μ-loop
-array-copy-out-slot c = omega arith
-
-add-slot-row : tie.Need-add-slot-row Inv-loop μ-loop
-add-slot-row c = omega arith
-
 slot-row-requires : tie.Need-slot-row-requires Inv-loop μ-loop
 slot-row-requires c κs = c .before .before .before .before .before .pre
 
@@ -55,9 +46,6 @@ turn c = c .before .before .before
 abbrev start : tie.At-loop Inv-loop μ-loop → tie.Start Inv-loop μ-loop
 start c = c .before .before .before
 
-slice-aggregate-put-row : tie.Need-slice-aggregate-put-row Inv-loop μ-loop
-slice-aggregate-put-row c = search needs
-
 put-row-requires : tie.Need-put-row-requires Inv-loop μ-loop
 unfolding coded-settings
 put-row-requires c κs =
@@ -66,12 +54,6 @@ put-row-requires c κs =
     let l = at .loop in
     let long : length (c .before .before .slot-row .result) ≡ 256 = search needs in
     (l .inv .1, l .inv .2, omega arith, omega (arith, vector-fits (b .args .own .n) (b .args .own .t) (b .args .own .w) (b .pre .fine)), l .inv .3)
-
-add-i : tie.Need-add-i Inv-loop μ-loop
-add-i c = omega arith
-
-loop-less : tie.Need-loop-less Inv-loop μ-loop
-loop-less c = omega arith
 
 loop-again : tie.Need-loop-again Inv-loop μ-loop
 unfolding coded-settings settings values-in value-size
@@ -105,13 +87,13 @@ table-of-spec =
     cast-n
     cast-w
     loop-holds
-    mul-slot
-    array-copy-out-slot
-    add-slot-row
+    (λ c. omega arith)
+    (λ c. omega arith)
+    (λ c. omega arith)
     slot-row-requires
-    slice-aggregate-put-row
+    (λ c. search needs)
     put-row-requires
-    add-i
-    loop-less
+    (λ c. omega arith)
+    (λ c. omega arith)
     loop-again
     returns)

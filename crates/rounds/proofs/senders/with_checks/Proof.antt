@@ -19,12 +19,6 @@ operand-size-requires : tie.Need-operand-size-requires
 unfolding settings
 operand-size-requires c κs = let few = sizes _ (c .pre) in (omega arith, few .few-bytes)
 
-slice-aggregate-put-checks : tie.Need-slice-aggregate-put-checks
-slice-aggregate-put-checks c = search needs
-
-array-borrow-prefix-checks : tie.Need-array-borrow-prefix-checks
-array-borrow-prefix-checks c = search needs
-
 slice-aggregate-put-checks-2 : tie.Need-slice-aggregate-put-checks-2
 slice-aggregate-put-checks-2 c = sym (length-take-le _ _ (search needs))
 
@@ -50,8 +44,8 @@ with-checks-spec =
     tie.close
     (tie.spec
     operand-size-requires
-    slice-aggregate-put-checks
-    array-borrow-prefix-checks
+    (λ c. search needs)
+    (λ c. search needs)
     slice-aggregate-put-checks-2
     put-checks-requires
     returns)
