@@ -8,6 +8,7 @@ use native.Mathlib.Omega.{arith}
 use native.Mathlib.Decide.{ℕ-discrete, decLt}
 use lib.ListN.{length, getD, take, drop, set, replicate, length-set, length-take, take-append-drop, List·getD-eq-default}
 use lib.Seq.{getD-set-same, getD-set-other, getD-take, ext-getD, length-take-le}
+use Rattle.arrays.proofs.Zeros.{zeros-at}
 use Rattle.field.specs.Field.{plus, times}
 use Rattle.field.proofs.Xor.{plus-zero}
 use Rattle.field.proofs.Times.{times-zero}
@@ -102,11 +103,6 @@ added-turn c (suc i) (x ∷ p) (y ∷ q) h l =
     ap (λ (r : List ℕ). plus x (times c y) ∷ r) (added-turn c i p q (omega arith) (omega arith))
 
 -- an array of zeros holds nothing
-pub zeros-at : (n i : ℕ) → getD {A = ℕ} (replicate n 0) i 0 ≡ 0
-zeros-at zero i = refl
-zeros-at (suc n) zero = refl
-zeros-at (suc n) (suc i) = zeros-at n i
-
 pub holds-none : Holds (replicate plane-room 0) []
 holds-none = record { long = refl; at = zeros-at plane-room }
 

@@ -6,6 +6,7 @@ use mathlib.Core.List.{List, [], _∷_, _++_}
 use Prim.Native.Nat.{ℕ, zero, suc, _+_, _*_, _-_, _<_, _≤_}
 use native.Mathlib.Omega.{arith}
 use lib.ListN.{getD, take, drop, replicate, length-take}
+use Rattle.arrays.proofs.Zeros.{zeros-at}
 use Rattle.field.specs.Field.{plus, times, inverse}
 use Rattle.field.proofs.Division.{inverse-lt}
 use Rattle.code.specs.Size.{plane-room}
@@ -17,7 +18,7 @@ use Rattle.locator.specs.Held.{Holds, Stands, Fitting, Carries, located}
 use Rattle.locator.specs.declared.berlekamp.Locator.{Locator}
 use Rattle.locator.proofs.Monic.{raised-length, raised-bytes}
 use Rattle.locator.proofs.Shape.{changed-none, changed-longer, changed-as-long, massey-shape, locator-length, locator-bytes}
-use Rattle.locator.proofs.Coefficients.{holds-take, holds-bytes, same-raised, holds-added, added-middle, zeros-at, holds-none, Remade, holds-remade}
+use Rattle.locator.proofs.Coefficients.{holds-take, holds-bytes, same-raised, holds-added, added-middle, holds-none, Remade, holds-remade}
 
 pub massey-fitting : (S : ℕ → ℕ) (k : ℕ) → Fitting k (massey S k)
 massey-fitting S k =

@@ -7,9 +7,10 @@ use mathlib.Core.List.{List, [], _∷_}
 use Prim.Native.Nat.{ℕ, zero, suc, _<_}
 use native.Mathlib.Omega.{arith}
 use lib.Dec.{eqb}
-use lib.ListN.{length, getD, replicate, length-replicate}
+use lib.ListN.{length, replicate, length-replicate}
 use borrow.Author.Tests.{eqb-true}
 use Rattle.arrays.proofs.Bool.{and-split}
+use Rattle.arrays.proofs.Zeros.{zeros-at}
 use Rattle.field.proofs.Xor.{plus-self, plus-zero}
 use Rattle.code.specs.Settings.{Settings, check-count, value-size}
 use Rattle.code.specs.Polynomial.{added}
@@ -63,15 +64,10 @@ plane-plus p w [] us a b = refl
 plane-plus p w (v ∷ vs) [] a b = refl
 plane-plus p w (v ∷ vs) (u ∷ us) a b = ap₂ _∷_ (getD-added v u p (a .1) (b .1)) (plane-plus p w vs us (a .2) (b .2))
 
-zero-byte : (w p : ℕ) → _≡_ {A = ℕ} (getD (replicate w 0) p 0) 0
-zero-byte zero p = refl
-zero-byte (suc w) zero = refl
-zero-byte (suc w) (suc p) = zero-byte w p
-
 plane-replicate : (p n w : ℕ) → plane p (replicate n (replicate w 0)) ≡ replicate n 0
 unfolding plane
 plane-replicate p zero w = refl
-plane-replicate p (suc n) w = ap₂ _∷_ (zero-byte w p) (plane-replicate p n w)
+plane-replicate p (suc n) w = ap₂ _∷_ (zeros-at w p) (plane-replicate p n w)
 
 pub plane-zeros : (s : Settings) (p : ℕ) → plane p (zeros s) ≡ replicate (s .n) 0
 unfolding zeros
