@@ -1,8 +1,9 @@
--- Truth values: the two parts of a conjunction and of a false disjunction, that true is not false, and tests counted by whether
+-- Truth values: the two parts of a conjunction and of a false disjunction, the case of a true one, that true is not false, and tests counted by whether
 -- they hold or fail. Each is its cases. Assumes nothing.
 use mathlib.Core.Path.{_≡_, refl, sym}
 use mathlib.Core.Bool.{Bool, true, false, cond, _&&_, _||_, true≢false, and-eq-true-iff}
 use mathlib.Mathlib.Data.Bool.Basic.{or-eq-false-eq-eq-false-and-eq-false}
+use mathlib.Core.Logic.{_⊎_, inl, inr}
 use Prim.Native.Nat.{_≤_, _+_}
 use native.Mathlib.Omega.{arith}
 
@@ -14,6 +15,10 @@ and-split a b = and-eq-true-iff a b .0
 
 pub or-split : (a b : Bool) → (a || b) ≡ false → (a ≡ false) × (b ≡ false)
 or-split a b = or-eq-false-eq-eq-false-and-eq-false a b .0
+
+pub or-cases : (a b : Bool) → (a || b) ≡ true → (a ≡ true) ⊎ (b ≡ true)
+or-cases true b e = inl refl
+or-cases false b e = inr e
 
 -- counting the tests that fail: one that holds wherever another does fails no more often
 pub count-le-one : (a : Bool) → cond a 0 1 ≤ 1

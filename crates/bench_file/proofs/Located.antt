@@ -4,10 +4,10 @@ use mathlib.Core.Path.{_≡_, refl, sym, _∙_, ap}
 use mathlib.Core.Bool.{Bool, true, false, cond, not, _&&_}
 use mathlib.Core.List.{List, _∷_}
 use mathlib.Core.Option.{Option, none, some}
-use Prim.Native.Nat.{ℕ, zero, suc, _+_, _*_, _-_, _≤_, _<_}
+use Prim.Native.Nat.{ℕ, _+_, _*_, _-_, _≤_, _<_}
 use native.Mathlib.Omega.{arith}
 use lib.Dec.{eqb}
-use lib.ListN.{length, getD, set, replicate, take, drop}
+use lib.ListN.{length, getD, set, take, drop}
 use lib.Seq.{getD-set-same, getD-set-other}
 use borrow.Author.Tests.{eqb-true, eqb-false, eq-eqb, ne-eqb}
 use Rattle.arrays.proofs.Bool.{and-split, true-not-false}
@@ -39,12 +39,6 @@ pub bytes-at-some : (file : List ℕ) (size at : ℕ) (x : Option (List ℕ)) �
 unfolding Bytes-at
 bytes-at-some file size at none s h = absurd (h s)
 bytes-at-some file size at (some x) s h = ap some (s .2)
-
--- a list of zeros
-pub zeros-at : (n i : ℕ) → getD {A = ℕ} (replicate n 0) i 0 ≡ 0
-zeros-at zero i = refl
-zeros-at (suc n) zero = refl
-zeros-at (suc n) (suc i) = zeros-at n i
 
 -- the slots of two messages
 rounds-apart : (a b x y : ℕ) → x < most-columns * most-columns → y < most-columns * most-columns → a * (most-columns * most-columns) + x ≡ b * (most-columns * most-columns) + y → (a ≡ b) × (x ≡ y)

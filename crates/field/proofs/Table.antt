@@ -1,23 +1,20 @@
 -- What the tables' rules give at an entry. A table that starts with 1 and doubles from entry to entry holds the powers of 2;
 -- one that names for each byte its place among them holds the logarithms. Assumes nothing.
-use mathlib.Core.Path.{_≡_, refl, sym, _∙_, ap, ap₂}
-use mathlib.Core.Bool.{Bool, true, false, _&&_}
+use mathlib.Core.Path.{_≡_, sym, _∙_, ap, ap₂}
+use mathlib.Core.Bool.{Bool, true}
 use mathlib.Core.List.{List, [], _∷_}
 use Prim.Native.Nat.{ℕ, zero, suc, _+_, _-_, _<_, _≤_}
 use native.Mathlib.Omega.{arith}
 use lib.Dec.{T, eqb, ltb, eqb→eq, ltb→lt}
 use lib.ListN.{length, getD}
 use borrow.Author.Tests.{eqb-true}
+use Rattle.arrays.proofs.Bool.{and-split}
 use Rattle.field.specs.Field.{doubled, times, power, inverse}
 use Rattle.field.specs.Table.{each-doubled, Powers, Logarithms}
 use Rattle.field.proofs.Power.{doublings, doublings-none, doublings-inner, power-doublings, power-zero, power-add}
 use Rattle.field.proofs.Logarithm.{doubled-list, doubled-list-at}
 use Rattle.field.proofs.Division.{inverse-power}
 use Rattle.field.proofs.Test.{both, both-left, both-right, every, below}
-
-and-split : (a b : Bool) → (a && b) ≡ true → (a ≡ true) × (b ≡ true)
-and-split true b e = (refl, e)
-and-split false b e = (e, cc)
 
 doubled-at : (x : ℕ) (xs : List ℕ) → each-doubled (x ∷ xs) ≡ true → (k : ℕ) → k < length (x ∷ xs) → getD (x ∷ xs) k 0 ≡ doublings k x
 unfolding each-doubled

@@ -49,11 +49,6 @@ pub bytes-zeros : (n : ℕ) → Bytes (replicate n 0)
 bytes-zeros zero = tt
 bytes-zeros (suc n) = (omega arith, bytes-zeros n)
 
-pub zeros-at : (n i : ℕ) → getD {A = ℕ} (replicate n 0) i 0 ≡ 0
-zeros-at zero i = refl
-zeros-at (suc n) zero = refl
-zeros-at (suc n) (suc i) = zeros-at n i
-
 pub bytes-append : (us vs : List ℕ) → Bytes us → Bytes vs → Bytes (us ++ vs)
 bytes-append [] vs b d = d
 bytes-append (u ∷ us) vs b d = (b .0, bytes-append us vs (b .1) d)

@@ -1,7 +1,7 @@
 -- Lent bytes as values: value j's byte p stands at j·w + p. What the planes of such values are, and what the values are glued
 -- together again. Assumes nothing.
 use mathlib.Core.Path.{_≡_, refl, sym, _∙_, ap, ap₂}
-use mathlib.Core.List.{List, [], _∷_, _++_}
+use mathlib.Core.List.{List, _++_}
 use Prim.Native.Nat.{ℕ, zero, suc, _+_, _*_, _<_, _≤_}
 use mir.Syntax.{w64}
 use mir.Val.{Fits}
@@ -9,7 +9,7 @@ use native.Mathlib.Omega.{arith}
 use native.Mathlib.Nat.{suc-mul, mul-le-mul-right}
 use native.Mathlib.Numerals.{add-one}
 use lib.ListN.{length, getD, take, drop, length-drop, take-append-drop}
-use lib.Seq.{getD-take, getD-drop, length-take-le, ext-getD}
+use lib.Seq.{take-add, getD-take, getD-drop, length-take-le, ext-getD}
 use Rattle.code.specs.Vector.{plane, cut, glued}
 use Rattle.arrays.specs.Array.{in-front}
 use Rattle.code.proofs.Lists.Bytes.{Bytes, bytes-take, bytes-drop}
@@ -52,17 +52,12 @@ plane-cut (suc n) w p bs (suc j) h l =
     ∙ ap (λ (i : ℕ). getD bs i 0) (let e : w + (j * w + p) ≡ suc j * w + p = omega (arith, suc-mul j w) in e)
 
 -- glued together again
-take-more : (a b : ℕ) (bs : List ℕ) → a + b ≤ length bs → take a bs ++ take b (drop a bs) ≡ take (a + b) bs
-take-more zero b bs h = ap (λ (k : ℕ). take k bs) (let e : b ≡ zero + b = omega arith in e)
-take-more (suc a) b [] h = absurd (omega arith)
-take-more (suc a) b (x ∷ bs) h = ap (_∷_ x) (take-more a b bs (omega arith)) ∙ ap (λ (k : ℕ). take k (x ∷ bs)) (let e : suc (a + b) ≡ suc a + b = omega arith in e)
-
 pub glued-cut : (n w : ℕ) (bs : List ℕ) → n * w ≤ length bs → glued (cut n w bs) ≡ take (n * w) bs
 unfolding glued cut
 glued-cut zero w bs h = ap (λ (k : ℕ). take k bs) (let e : 0 ≡ zero * w = omega arith in e)
 glued-cut (suc n) w bs h =
     ap (_++_ (take w bs)) (glued-cut n w (drop w bs) (omega (arith, suc-mul n w, length-drop w bs)))
-    ∙ take-more w (n * w) bs (omega (arith, suc-mul n w)) ∙ ap (λ (k : ℕ). take k bs) (let e : w + n * w ≡ suc n * w = omega (arith, suc-mul n w) in e)
+    ∙ sym (take-add w (n * w) bs) ∙ ap (λ (k : ℕ). take k bs) (let e : w + n * w ≡ suc n * w = omega (arith, suc-mul n w) in e)
 
 -- an output whose first n values are new and whose other bytes are kept
 pub in-front-cut :

@@ -1,8 +1,8 @@
 -- The conditions of demand 3, tested, so that examples can be computed. A good column is given by its list of calls, the rows of its
 -- tables and the frames that it sends. It is tested that its list runs, that it sends each frame in its round, that each other is handed
 -- it in that round, and that nothing else under its slot has the run number. Assumes nothing.
-use mathlib.Core.Path.{_≡_, refl, sym, _∙_, ap, subst}
-use mathlib.Core.Bool.{Bool, true, false, _&&_, _||_, not}
+use mathlib.Core.Path.{_≡_, sym, _∙_, ap, subst}
+use mathlib.Core.Bool.{Bool, true, _&&_, _||_, not}
 use mathlib.Core.List.{List, [], _∷_, map}
 use mathlib.Core.Logic.{_⊎_, inl, inr}
 use Prim.Native.Nat.{ℕ, _+_, _-_, _≤_}
@@ -10,7 +10,7 @@ use native.Mathlib.Omega.{arith}
 use lib.Dec.{eqb, ltb, leb}
 use lib.ListN.{length, length-map}
 use borrow.Author.Tests.{eqb-true, eq-eqb, ne-eqb, le-ltb, leb-true}
-use Rattle.arrays.proofs.Bool.{and-split}
+use Rattle.arrays.proofs.Bool.{and-split, or-cases}
 use Rattle.code.specs.Settings.{Settings}
 use Rattle.code.specs.Vector.{same}
 use Rattle.code.proofs.Lists.Tests.{all-from, all-below-at}
@@ -63,10 +63,6 @@ unfoldable pub meets-test : Settings → (run : ℕ) → (reader sender : Script
 meets-test s run a b =
     all-from 3 0 (λ j. some-place (a .claims) (hands-test (b .number) (1 + j) (b .frames (1 + j))) (a .calls) (opening s run a))
     && given-test (fair-bytes run b) (b .number) (a .calls)
-
-or-cases : (a b : Bool) → (a || b) ≡ true → (a ≡ true) ⊎ (b ≡ true)
-or-cases true b e = inl refl
-or-cases false b e = inr e
 
 module _ (s : Settings) (run : ℕ) where
   pub record Plays (p : Script) : Type 0 where

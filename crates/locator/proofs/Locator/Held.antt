@@ -6,11 +6,12 @@ use mathlib.Core.List.{List, [], _∷_, _++_}
 use Prim.Native.Nat.{ℕ, zero, suc, _+_, _*_, _-_, _<_, _≤_}
 use native.Mathlib.Omega.{arith}
 use lib.ListN.{getD, take, drop, replicate, length-take}
+use Rattle.arrays.proofs.Zeros.{zeros-at}
 use Rattle.field.specs.Field.{plus, times, inverse}
 use Rattle.field.proofs.Division.{inverse-lt}
 use Rattle.code.specs.Size.{plane-room}
 use Rattle.code.specs.Polynomial.{added, scaled}
-use Rattle.code.proofs.Lists.Bytes.{byte-at, bytes-every, zeros-at}
+use Rattle.code.proofs.Lists.Bytes.{byte-at, bytes-every}
 use Rattle.code.proofs.Polynomials.Arithmetic.{getD-added, getD-scaled, bytes-scaled, length-added, length-scaled}
 use Rattle.locator.specs.Locator.{State, against, raised, start, longer, as-long, changed, massey}
 use Rattle.locator.specs.Held.{Holds, Stands, Fitting, Carries, located}

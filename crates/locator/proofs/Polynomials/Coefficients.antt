@@ -8,12 +8,13 @@ use native.Mathlib.Omega.{arith}
 use native.Mathlib.Decide.{ℕ-discrete, decLt}
 use lib.ListN.{length, getD, take, drop, set, replicate, length-set, length-take, take-append-drop, List·getD-eq-default}
 use lib.Seq.{getD-set-same, getD-set-other, getD-take, ext-getD, length-take-le}
+use Rattle.arrays.proofs.Zeros.{zeros-at}
 use Rattle.field.specs.Field.{plus, times}
 use Rattle.field.proofs.Xor.{plus-zero}
 use Rattle.field.proofs.Times.{times-zero}
 use Rattle.code.specs.Size.{plane-room}
 use Rattle.code.specs.Polynomial.{added, scaled}
-use Rattle.code.proofs.Lists.Bytes.{Bytes, byte-at, bytes-every, zeros-at}
+use Rattle.code.proofs.Lists.Bytes.{Bytes, byte-at, bytes-every}
 use Rattle.code.proofs.Polynomials.Arithmetic.{getD-added, getD-scaled, bytes-scaled, length-added, length-scaled}
 use Rattle.locator.specs.Locator.{raised}
 use Rattle.locator.specs.Held.{Holds}

@@ -3,6 +3,7 @@ use mathlib.Core.Path.{_≡_, sym, _∙_}
 use mathlib.Core.Bool.{cond}
 use Prim.Native.Nat.{_+_, _-_}
 use native.Mathlib.Omega.{arith}
+use lib.ListN.{take, drop}
 use borrow.Author.Tests.{eq-eqb, ne-eqb}
 use borrow.Author.Needs.{needs}
 use Rattle.record.specs.Refusal.{line, blank-refusal}
@@ -26,7 +27,7 @@ unfolding value-fault blank-refusal line
 own c =
     let left = c .before .before in let a = left .before .before .args in
     let size : a .at + 2 + a .w - (a .at + 2) ≡ a .w = omega arith in
-    simp (eq-eqb (a .command) 4 (left .if1 .left), c .is-zero .ensures ∙ all-zero-blank _, size)
+    simp (eq-eqb (a .command) 4 (left .if1 .left), c .is-zero .ensures ∙ all-zero-blank (take (a .at + 2 + a .w - (a .at + 2)) (drop (a .at + 2) (a .file .now))), size)
 
 returns-2 : tie.Need-returns-2
 returns-2 c = sym (own (c .before) ∙ simp (c .if2 .taken))

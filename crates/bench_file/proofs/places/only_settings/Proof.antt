@@ -1,11 +1,12 @@
 -- `only_settings` meets its contract: no place is kept yet. Assumes nothing.
 use mathlib.Core.Path.{refl}
 use Prim.Native.Nat.{_-_}
+use Rattle.arrays.proofs.Zeros.{zeros-at}
 use Rattle.code.specs.Size.{most-columns}
 use Rattle.bench_file.specs.Scenario.{only-settings, own-of, message-of}
 use Rattle.bench_file.specs.Command.{no-message}
 use Rattle.bench_file.specs.Steps.Places.{Bytes-at, most-messages, message-index}
-use Rattle.bench_file.proofs.Located.{zeros-at, none-some}
+use Rattle.bench_file.proofs.Located.{none-some}
 use Rattle.bench_file.proofs.places.only_settings.Statement.{statement}
 use Rattle.bench_file.proofs.places.only_settings.Tie as tie
 
