@@ -1,7 +1,6 @@
 pub mod ValidSettings
-pub mod Lists
+pub mod Tests
 pub mod Polynomials
 pub mod Codewords
 pub mod Vectors
-pub mod Products
 pub mod Encoding

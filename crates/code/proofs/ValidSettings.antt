@@ -7,7 +7,8 @@ use native.Mathlib.Omega.{arith}
 use native.Mathlib.Nat.{mul-le-mul}
 use lib.Dec.{ltb, leb}
 use borrow.Author.Tests.{ltb-false, leb-true}
-use Rattle.code.specs.Size.{most-columns, most-checks, value-room, row-width, vector-room, checks-room}
+use Rattle.code.specs.Size.{most-columns, most-checks, value-room, vector-room, checks-room}
+use Rattle.lanes.specs.Lanes.{row-width}
 use Rattle.code.specs.Settings.{Settings, settings, settings-refusal}
 use Rattle.arrays.proofs.Bool.{and-split}
 

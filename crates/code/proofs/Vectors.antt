@@ -2,5 +2,4 @@
 pub mod Planes
 pub mod Checks
 pub mod Cut
-pub mod Lane
 pub mod Loading

@@ -1,6 +1,7 @@
 -- Sizes of the program's arrays: the most of each thing that settings allow, and the width of a row. Assumes nothing: these are
 -- definitions.
 use Prim.Native.Nat.{ℕ, _+_, _*_}
+use Rattle.lanes.specs.Lanes.{row-width}
 
 abbrev pub most-columns : ℕ
 most-columns = 32
@@ -37,10 +38,6 @@ vector-room = most-columns * value-room
 abbrev pub checks-room : ℕ
 checks-room = most-checks * value-room
 
--- the byte planes that a row has room for, at least the most bytes of a value
-abbrev pub row-width : ℕ
-row-width = 8
-
 -- a row for each place
 abbrev pub place-rows : ℕ
 place-rows = row-width * most-places
@@ -52,7 +49,3 @@ check-rows = row-width * most-checks
 -- a row for each coefficient of a locator
 abbrev pub locator-rows : ℕ
 locator-rows = row-width * (most-bad + 1)
-
--- a row for each multiple of a value by half a byte
-abbrev pub multiple-rows : ℕ
-multiple-rows = row-width * 16

@@ -1,5 +1,4 @@
 // The Reed-Solomon code over byte planes: check values.
-pub mod lanes;
 pub mod planes;
 mod register;
 pub mod roots;
@@ -12,7 +11,7 @@ ghost use lib.ListN.{length};
 ghost use Rattle.code.specs.Settings.{settings, settings-refusal};
 ghost use Rattle.code.specs.Entry.{Checks-says, Checks-put};
 use crate::sizes::GENERATOR_ROOM;
-use crate::sizes::ROW_WIDTH;
+use lanes::ROW_WIDTH;
 
 // The check values of a vector of n values, in the first 2t·w bytes of the output: 0, or the refusal 1, 2, 3 or 18.
 pub fn check_values(n: u32, t: u32, w: u32, vector: &[u8], output: &mut [u8]) -> u32

@@ -2,10 +2,11 @@
 ghost use mathlib.Core.Path.{_≡_};
 ghost use Prim.Native.Nat.{_+_, _*_, _≤_};
 ghost use lib.ListN.{length};
-ghost use Rattle.code.specs.Size.{most-columns, most-checks, row-width};
-ghost use Rattle.code.specs.Steps.Lanes.{Loaded, Stored};
+ghost use Rattle.code.specs.Size.{most-columns, most-checks};
+ghost use Rattle.lanes.specs.Lanes.{row-width};
+ghost use Rattle.code.specs.Steps.Rows.{Loaded, Stored};
 use crate::sizes::PLACE_ROWS;
-use crate::sizes::ROW_WIDTH;
+use lanes::ROW_WIDTH;
 
 // The columns' values as rows, the last column first, and zeros above them.
 pub fn load(vector: &[u8], n: usize, size: usize) -> [u8; PLACE_ROWS]

@@ -9,13 +9,13 @@ ghost use lib.ListN.{length, getD, replicate};
 ghost use Rattle.arrays.specs.Array.{Filled};
 ghost use Rattle.field.specs.Field.{plus, times, inverse};
 ghost use Rattle.field.specs.Table.{Powers, Logarithms};
-ghost use Rattle.code.specs.Size.{most-columns, most-checks, generator-room, row-width};
+ghost use Rattle.code.specs.Size.{most-columns, most-checks, generator-room};
+ghost use Rattle.lanes.specs.Lanes.{row-width, in-row};
 ghost use Rattle.code.specs.Polynomial.{Roots, generator as «generator-of»};
-ghost use Rattle.code.specs.Steps.Lanes.{in-row, Divided};
-use crate::lanes;
+ghost use Rattle.code.specs.Steps.Rows.{Divided};
 use crate::sizes::GENERATOR_ROOM;
 use crate::sizes::MOST_CHECKS;
-use crate::sizes::ROW_WIDTH;
+use lanes::ROW_WIDTH;
 
 // The polynomial becomes its product by (x + c), from the new highest coefficient on. Past its coefficients the array holds zeros.
 fn times_factor(

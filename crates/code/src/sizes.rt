@@ -1,4 +1,5 @@
 // Sizes of arrays: the most of each thing that settings allow, and the width of a row.
+use lanes::ROW_WIDTH;
 
 pub const MOST_COLUMNS: usize = 32;
 
@@ -25,9 +26,6 @@ pub const VECTOR_ROOM: usize = MOST_COLUMNS * VALUE_ROOM;
 
 pub const CHECKS_ROOM: usize = MOST_CHECKS * VALUE_ROOM;
 
-// The byte planes that a row has room for, and so at least the most bytes of a value.
-pub const ROW_WIDTH: usize = 8;
-
 // A row for each place, and one for each check.
 pub const PLACE_ROWS: usize = ROW_WIDTH * MOST_PLACES;
 
@@ -35,6 +33,3 @@ pub const CHECK_ROWS: usize = ROW_WIDTH * MOST_CHECKS;
 
 // A row for each coefficient of a locator.
 pub const LOCATOR_ROWS: usize = ROW_WIDTH * (MOST_BAD + 1);
-
-// A row for each multiple of a value by half a byte.
-pub const MULTIPLE_ROWS: usize = ROW_WIDTH * 16;

@@ -12,7 +12,7 @@ use Rattle.field.proofs.Times.{times-lt}
 use Rattle.code.specs.Settings.{Settings, settings-refusal, check-count}
 use Rattle.code.specs.Plane.{syndrome}
 use Rattle.code.specs.Repair.{Near}
-use Rattle.code.proofs.Lists.Bytes.{Bytes, bytes-zeros}
+use Rattle.arrays.proofs.Bytes.{Bytes, bytes-zeros}
 use Rattle.code.proofs.Codewords.Word.{Shape}
 use Rattle.locator.specs.Locator.{massey}
 use Rattle.locator.specs.Errors.{error-byte, mended, Located, Explained, Near-errors, Error-bytes}

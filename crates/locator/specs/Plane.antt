@@ -5,8 +5,8 @@ use mathlib.Core.List.{List}
 use Prim.Native.Nat.{ℕ, _+_, _-_, _≤_, _<_}
 use lib.ListN.{length, getD}
 use Rattle.field.specs.Field.{times, power}
-use Rattle.code.specs.Size.{most-places, row-width}
-use Rattle.code.specs.Steps.Lanes.{in-row}
+use Rattle.code.specs.Size.{most-places}
+use Rattle.lanes.specs.Lanes.{row-width, in-row}
 use Rattle.locator.specs.Errors.{place-exponent}
 
 -- whether each of the first sums of plane p but the first is x times the one before it, and where not, one that is not

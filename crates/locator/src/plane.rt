@@ -4,16 +4,16 @@ ghost use Prim.Native.Nat.{ℕ, _*_, _≤_, _<_};
 ghost use lib.ListN.{length, getD};
 ghost use Rattle.arrays.specs.Array.{Filled};
 ghost use Rattle.field.specs.Table.{Powers, Logarithms};
-ghost use Rattle.code.specs.Size.{most-places, plane-room, row-width};
+ghost use Rattle.code.specs.Size.{most-places, plane-room};
+ghost use Rattle.lanes.specs.Lanes.{row-width, in-row, lane};
 ghost use Rattle.code.specs.Polynomial.{eval};
-ghost use Rattle.code.specs.Steps.Lanes.{in-row, lane};
 ghost use Rattle.locator.specs.Locator.{value};
 ghost use Rattle.locator.specs.Errors.{wrong-places};
 ghost use Rattle.locator.specs.Plane.{Listed, Lane-written};
 use crate::berlekamp::error_at;
 use code::sizes::MOST_PLACES;
 use code::sizes::PLANE_ROOM;
-use code::sizes::ROW_WIDTH;
+use lanes::ROW_WIDTH;
 
 // Plane p of the first rows.
 pub fn plane_of(rows: &[u8], p: usize, many: usize) -> [u8; PLANE_ROOM]

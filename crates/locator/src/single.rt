@@ -5,10 +5,11 @@ ghost use Prim.Native.Nat.{_+_, _*_, _≤_, _<_};
 ghost use lib.ListN.{length};
 ghost use Rattle.field.specs.Field.{power};
 ghost use Rattle.field.specs.Table.{Powers, Logarithms};
-ghost use Rattle.code.specs.Size.{most-columns, most-checks, row-width};
+ghost use Rattle.code.specs.Size.{most-columns, most-checks};
+ghost use Rattle.lanes.specs.Lanes.{row-width};
 ghost use Rattle.locator.specs.Errors.{place-exponent};
 ghost use Rattle.locator.specs.Plane.{Geometric-as, Single-at};
-use code::sizes::ROW_WIDTH;
+use lanes::ROW_WIDTH;
 
 // The place that is x, or where none is, one past the last.
 fn place_of(logarithms: &[u8; 256], x: u8, n: usize, count: usize) -> usize

@@ -10,16 +10,16 @@ use lib.ListN.{length, getD, drop, replicate, length-replicate}
 use lib.Seq.{take-all}
 use Rattle.arrays.specs.Array.{in-front, all-zero}
 use Rattle.arrays.proofs.Zeros.{some-not-zero}
-use Rattle.code.specs.Size.{row-width, place-rows}
+use Rattle.lanes.specs.Lanes.{row-width, in-row, lane}
+use Rattle.code.specs.Size.{place-rows}
 use Rattle.code.specs.Settings.{Settings, settings, settings-refusal, check-count, value-size}
 use Rattle.code.specs.Polynomial.{root}
 use Rattle.code.specs.Plane.{is-codeword}
 use Rattle.code.specs.Vector.{plane, cut, glued}
 use Rattle.code.specs.Entry.{values-in}
-use Rattle.code.specs.Steps.Lanes.{in-row, lane}
-use Rattle.code.proofs.Lists.Bytes.{Bytes, bytes-zeros}
+use Rattle.arrays.proofs.Bytes.{Bytes, bytes-zeros}
 use Rattle.code.proofs.Vectors.Cut.{cut-length, cut-values, glued-cut}
-use Rattle.code.proofs.Vectors.Lane.{lane-length, lane-zeros}
+use Rattle.lanes.proofs.Lane.{lane-length, lane-zeros}
 use Rattle.code.proofs.Codewords.Near.{differ-self}
 use Rattle.code.proofs.Vectors.Planes.{Values, plane-length, plane-bytes, vector-back}
 use Rattle.code.proofs.ValidSettings.{sizes}

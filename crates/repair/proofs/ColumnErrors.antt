@@ -15,25 +15,24 @@ use Rattle.field.specs.Field.{plus, times, power, inverse}
 use Rattle.field.proofs.Xor.{plus-zero}
 use Rattle.field.proofs.Times.{times-zero}
 use Rattle.field.proofs.Power.{power-lt}
-use Rattle.code.specs.Size.{row-width}
+use Rattle.lanes.specs.Lanes.{row-width, in-row, lane}
 use Rattle.code.specs.Polynomial.{first-exponent, added, scaled}
 use Rattle.code.specs.Vector.{cut, glued, plane, is-vector}
-use Rattle.code.proofs.Lists.Bytes.{Bytes, bytes-take, bytes-drop}
+use Rattle.arrays.proofs.Bytes.{Bytes, bytes-take, bytes-drop}
 use Rattle.code.proofs.Polynomials.Arithmetic.{getD-added, getD-scaled, length-added, length-scaled, bytes-scaled}
 use Rattle.code.proofs.Vectors.Cut.{next-value, cut-length}
 use Rattle.repair.specs.Difference.{plus-values}
 use Rattle.repair.specs.Steps.Columns.{column-errors}
-use Rattle.code.proofs.Lists.Part.{part-long}
+use Rattle.arrays.proofs.Part.{part-long}
 use Rattle.sums.proofs.AllPlaces.Powers.{weight-inverse}
 use mathlib.Core.Bool.{true}
 use Rattle.field.proofs.Logarithm.{times-comm}
 use Rattle.field.proofs.Division.{inverse-lt}
 use Rattle.code.specs.Settings.{Settings, check-count, value-size}
-use Rattle.code.specs.Steps.Lanes.{in-row, lane}
 use Rattle.code.proofs.Vectors.Planes.{Values, vector-back, plane-length}
 use Rattle.locator.specs.Locator.{value}
 use Rattle.locator.specs.Errors.{error-byte, Error-bytes}
-use Rattle.code.proofs.Vectors.Lane.{lane-at}
+use Rattle.lanes.proofs.Lane.{lane-at}
 use Rattle.locator.proofs.Errors.Places.{place-exponent-column}
 
 -- one more value

@@ -5,13 +5,14 @@ ghost use lib.ListN.{length, getD};
 ghost use Rattle.arrays.specs.Array.{in-front, Filled};
 ghost use Rattle.field.specs.Field.{plus, times, power};
 ghost use Rattle.field.specs.Table.{Powers, Logarithms};
-ghost use Rattle.code.specs.Size.{most-columns, row-width};
+ghost use Rattle.code.specs.Size.{most-columns};
+ghost use Rattle.lanes.specs.Lanes.{row-width};
 ghost use Rattle.code.specs.Polynomial.{first-exponent};
 ghost use Rattle.code.specs.Vector.{cut, glued};
 ghost use Rattle.repair.specs.Difference.{plus-values};
 ghost use Rattle.repair.specs.Steps.Columns.{column-errors};
 use code::sizes::MOST_COLUMNS;
-use code::sizes::ROW_WIDTH;
+use lanes::ROW_WIDTH;
 use sums::places::progression;
 
 // What divides a column's weight out of its error: powers of the first root, 2 to its logarithm.

@@ -17,7 +17,7 @@ use Rattle.code.specs.Vector.{plane, is-vector, has-checks, differ-values}
 use Rattle.code.specs.Repair.{Repaired, No-repair}
 use Rattle.code.specs.Entry.{values-in}
 use Rattle.code.specs.Promise.{One-near, Repairs}
-use Rattle.code.proofs.Lists.Bytes.{Bytes}
+use Rattle.arrays.proofs.Bytes.{Bytes}
 use Rattle.code.proofs.Codewords.Word.{word-of}
 use Rattle.code.proofs.Codewords.Near.{one-near}
 use Rattle.code.proofs.Vectors.Planes.{Values, vector-of, vector-back, plane-length, planes-same, checked-of, repairs}

@@ -19,7 +19,7 @@ use Rattle.arrays.specs.Array.{in-front}
 use Rattle.code.specs.Settings.{Settings, settings, settings-refusal, check-count, value-size}
 use Rattle.code.specs.Vector.{is-vector, are-checks, has-checks, cut, glued}
 use Rattle.code.specs.Entry.{values-in}
-use Rattle.code.proofs.Lists.Bytes.{Bytes}
+use Rattle.arrays.proofs.Bytes.{Bytes}
 use Rattle.code.proofs.Vectors.Cut.{cut-length, cut-values, value-fits}
 use Rattle.code.proofs.ValidSettings.{values-fit, sizes}
 use Rattle.code.proofs.Vectors.Planes.{vector-of, values-back}

@@ -15,7 +15,7 @@ use Rattle.code.specs.Plane.{byte-list}
 use Rattle.code.specs.Vector.{plane, each-long, is-vector, are-checks, same, differ-values}
 use Rattle.code.specs.Promise.{Repairs}
 use Rattle.code.proofs.Codewords.Quick.{quick-summed, quick-zero-from, quick-word, quick-planes-from, quick-checks, checks-quick}
-use Rattle.code.proofs.Lists.Tests.{all-from}
+use Rattle.code.proofs.Tests.{all-from}
 use Rattle.code.proofs.Vectors.Planes.{repairs}
 use Rattle.locator.specs.Locator.{massey, start, changed, longer, as-long, against, raised, quotient, value}
 use Rattle.locator.specs.Errors.{place-exponent}

@@ -5,9 +5,9 @@ use mathlib.Core.List.{List}
 use Prim.Native.Nat.{ℕ, _+_, _<_}
 use lib.ListN.{length, getD}
 use Rattle.field.specs.Field.{power}
-use Rattle.code.specs.Size.{most-places, row-width, place-rows}
+use Rattle.code.specs.Size.{most-places, place-rows}
+use Rattle.lanes.specs.Lanes.{row-width, in-row, lane}
 use Rattle.code.specs.Polynomial.{eval}
-use Rattle.code.specs.Steps.Lanes.{in-row, lane}
 use Rattle.locator.specs.Errors.{place-exponent}
 
 -- the m-th power of each place

@@ -5,11 +5,11 @@ use mathlib.Core.List.{List}
 use Prim.Native.Nat.{ℕ, _+_, _*_, _-_, _≤_, _<_}
 use lib.ListN.{length, getD}
 use Rattle.field.specs.Field.{plus, power}
-use Rattle.code.specs.Size.{most-checks, row-width, check-rows}
+use Rattle.code.specs.Size.{most-checks, check-rows}
+use Rattle.lanes.specs.Lanes.{row-width, in-row, lane}
 use Rattle.code.specs.Settings.{Settings, check-count}
 use Rattle.code.specs.Polynomial.{root}
 use Rattle.code.specs.Plane.{summed}
-use Rattle.code.specs.Steps.Lanes.{in-row, lane}
 use Rattle.locator.specs.Errors.{error-sum}
 
 -- two lists of values of so many bytes added into rows, as many as the first number says; every other byte is 0

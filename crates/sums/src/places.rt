@@ -7,12 +7,13 @@ ghost use lib.ListN.{length};
 ghost use Rattle.arrays.specs.Array.{Filled};
 ghost use Rattle.field.specs.Field.{power};
 ghost use Rattle.field.specs.Table.{Powers};
-ghost use Rattle.code.specs.Size.{most-columns, most-checks, most-places, plane-room, row-width};
+ghost use Rattle.code.specs.Size.{most-columns, most-checks, most-places, plane-room};
+ghost use Rattle.lanes.specs.Lanes.{row-width};
 ghost use Rattle.locator.specs.Errors.{place-exponent};
 ghost use Rattle.sums.specs.Places.{Place-powers, Evaluated};
 use code::sizes::MOST_PLACES;
 use code::sizes::PLACE_ROWS;
-use code::sizes::ROW_WIDTH;
+use lanes::ROW_WIDTH;
 
 // The powers of 2 with the exponents start, start + step, start + 2·step and so on.
 pub fn progression(powers: &[u8; 255], start: usize, step: usize, constants: &mut [u8])
@@ -80,7 +81,7 @@ pub fn evaluate_all(
         let constants = place_powers(powers, m, n, count);
         let at = ROW_WIDTH * m;
         let end = at + ROW_WIDTH;
-        code::lanes::add_products(&coefficients[at..end], &constants[..places], &mut rows);
+        lanes::add_products(&coefficients[at..end], &constants[..places], &mut rows);
         m += 1;
     }
     rows

@@ -8,8 +8,8 @@ ghost use lib.ListN.{length, getD};
 ghost use Rattle.arrays.specs.Array.{Filled, Written};
 ghost use Rattle.field.specs.Field.{plus, power};
 ghost use Rattle.field.specs.Table.{Powers, Logarithms};
-ghost use Rattle.code.specs.Size.{most-columns, most-checks, row-width, check-rows};
-ghost use Rattle.code.specs.Steps.Lanes.{Products-added};
+ghost use Rattle.code.specs.Size.{most-columns, most-checks, check-rows};
+ghost use Rattle.lanes.specs.Lanes.{row-width, Products-added};
 ghost use Rattle.code.specs.Polynomial.{root};
 ghost use Rattle.code.specs.Settings.{Settings, check-count};
 ghost use Rattle.sums.specs.Rows.{Values-added, Root-logarithms, Check-sums, Error-sums, Explained-as};
@@ -17,7 +17,7 @@ use crate::places::place_exponent;
 use crate::places::progression;
 use code::sizes::CHECK_ROWS;
 use code::sizes::MOST_CHECKS;
-use code::sizes::ROW_WIDTH;
+use lanes::ROW_WIDTH;
 
 // So many bytes of two lists from a place on, added into the rows.
 fn sum_bytes(a: &[u8], b: &[u8], from: usize, many: usize, rows: &mut [u8; CHECK_ROWS], to: usize)
@@ -89,7 +89,7 @@ fn add_row(row: &[u8], constants: &[u8], sums: &mut [u8])
     if arrays::is_zero(&row[..ROW_WIDTH]) {
         return;
     }
-    code::lanes::add_products(row, constants, sums);
+    lanes::add_products(row, constants, sums);
 }
 
 // The syndromes of the difference: check c's byte belongs to the power count - 1 - c of each root.

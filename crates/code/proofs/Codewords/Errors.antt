@@ -19,7 +19,7 @@ use Rattle.field.proofs.Power.{power-lt, power-add, power-mul, power-nonzero, p
 use Rattle.field.proofs.Logarithm.{times-assoc, times-comm, no-zero-divisors, plus-times}
 use Rattle.code.specs.Polynomial.{first-exponent, root}
 use Rattle.code.specs.Plane.{summed, differ}
-use Rattle.code.proofs.Lists.Bytes.{Bytes}
+use Rattle.arrays.proofs.Bytes.{Bytes}
 use Rattle.code.proofs.Codewords.Place.{Place, Byte-places, Apart, Different, All-zero, nonzero, apart-append}
 use Rattle.code.proofs.Codewords.PowerSum.{power-sum}
 

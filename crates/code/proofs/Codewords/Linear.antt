@@ -17,7 +17,7 @@ use Rattle.code.specs.Settings.{Settings, check-count}
 use Rattle.code.specs.Polynomial.{root, added}
 use Rattle.code.specs.Plane.{summed, syndrome, is-codeword, differ}
 use Rattle.code.specs.Repair.{Near}
-use Rattle.code.proofs.Lists.Bytes.{Bytes}
+use Rattle.arrays.proofs.Bytes.{Bytes}
 use Rattle.code.proofs.Polynomials.Arithmetic.{length-added, bytes-added}
 use Rattle.code.proofs.Codewords.Word.{Shape, word-of, word-back}
 

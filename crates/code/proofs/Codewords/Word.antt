@@ -17,8 +17,8 @@ use Rattle.code.specs.Settings.{Settings, check-count}
 use Rattle.code.specs.Polynomial.{root}
 use Rattle.code.specs.Plane.{syndrome, all-zero-from, byte-list, is-codeword, differ}
 use Rattle.code.proofs.ValidSettings.{Sizes}
-use Rattle.code.proofs.Lists.Bytes.{Bytes, bytes-of, bytes-back}
-use Rattle.code.proofs.Lists.Tests.{all-from, all-below-at, all-below-back}
+use Rattle.arrays.proofs.Bytes.{Bytes}
+use Rattle.code.proofs.Tests.{bytes-of, bytes-back, all-from, all-below-at, all-below-back}
 use Rattle.code.proofs.Codewords.Place.{Place, Byte-places, Different, All-zero, nonzero, byte-places-append, nonzero-append, all-zero-split}
 use Rattle.code.proofs.Codewords.PowerSum.{power-sum, power-sum-append}
 use Rattle.code.proofs.Codewords.Errors.{summed-below, summed-is-below, errors, errors-bytes, errors-sum, errors-different-both, errors-count, equal-of-errors-zero}

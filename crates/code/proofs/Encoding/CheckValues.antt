@@ -10,20 +10,21 @@ use native.Mathlib.Decide.{decLt}
 use lib.ListN.{length, getD, take, drop, length-drop, length-reverse, List·getD-append, List·getD-eq-default}
 use lib.Seq.{ext-getD, getD-take, getD-drop, getD-append-add, length-take-le}
 use Rattle.field.specs.Field.{times, inverse}
-use Rattle.code.specs.Size.{most-checks, row-width}
+use Rattle.code.specs.Size.{most-checks}
+use Rattle.lanes.specs.Lanes.{row-width, in-row, lane}
 use Rattle.code.specs.Settings.{Settings, settings, settings-refusal, check-count, value-size}
 use Rattle.code.specs.Polynomial.{eval, root, generator}
 use Rattle.code.specs.Plane.{is-codeword}
 use Rattle.code.specs.Vector.{plane, cut}
 use Rattle.code.specs.Entry.{values-in, Checks-put}
 use Rattle.arrays.specs.Array.{Filled}
-use Rattle.code.specs.Steps.Lanes.{in-row, lane, Divided, Loaded, Stored}
-use Rattle.code.proofs.Lists.Bytes.{Bytes, bytes-drop}
+use Rattle.code.specs.Steps.Rows.{Divided, Loaded, Stored}
+use Rattle.arrays.proofs.Bytes.{Bytes, bytes-drop}
 use Rattle.code.proofs.Polynomials.Arithmetic.{eval-ext}
 use Rattle.code.proofs.Polynomials.Generator.{root-lt}
 use Rattle.code.proofs.ValidSettings.{Sizes, sizes, value-in-row}
 use Rattle.code.proofs.Vectors.Planes.{plane-length, plane-bytes, checked-back}
-use Rattle.code.proofs.Vectors.Lane.{lane-length, lane-at, lane-bytes}
+use Rattle.lanes.proofs.Lane.{lane-length, lane-at, lane-bytes}
 use Rattle.code.proofs.Vectors.Cut.{cut-length, cut-values, plane-cut, in-front-cut}
 use Rattle.code.proofs.Encoding.Factors.{feedback-root}
 use Rattle.code.proofs.Encoding.Division.{divided-codeword}

@@ -18,19 +18,19 @@ use Rattle.field.proofs.Xor.{plus-comm, plus-self, plus-zero, zero-plus}
 use Rattle.field.proofs.Times.{times-plus, times-zero, one-times}
 use Rattle.field.proofs.Power.{power-lt, power-suc, power-zero, power-add, power-mul, order-of-two}
 use Rattle.field.proofs.Logarithm.{times-assoc, times-comm, times-left-comm, times-one}
-use Rattle.code.specs.Size.{row-width}
+use Rattle.lanes.specs.Lanes.{row-width, in-row, lane, Products-added}
 use Rattle.code.specs.Settings.{Settings, settings-refusal, check-count}
 use Rattle.code.specs.Polynomial.{eval, added, scaled, first-exponent, root}
 use Rattle.code.specs.Plane.{syndrome, is-codeword, data-polynomial, check-polynomial}
-use Rattle.code.specs.Steps.Lanes.{in-row, lane, Products-added, Divided}
-use Rattle.code.proofs.Lists.Bytes.{Bytes, bytes-drop, bytes-reverse}
+use Rattle.code.specs.Steps.Rows.{Divided}
+use Rattle.arrays.proofs.Bytes.{Bytes, bytes-drop, bytes-reverse}
 use Rattle.code.proofs.Polynomials.Arithmetic.{eval-lt, eval-added, eval-scaled, eval-append, eval-zeros, getD-added, getD-scaled, bytes-scaled, length-added, length-scaled}
 use Rattle.code.proofs.Polynomials.Generator.{root-lt}
 use Rattle.code.proofs.Polynomials.Remainder.{syndrome-eval}
 use Rattle.code.proofs.ValidSettings.{sizes}
 use Rattle.code.proofs.Codewords.Word.{Shape, word-back}
-use Rattle.code.proofs.Vectors.Lane.{lane-length, lane-at, lane-bytes}
-use Rattle.code.proofs.Lists.Part.{part-lent, part-inside, part-after}
+use Rattle.lanes.proofs.Lane.{lane-length, lane-at, lane-bytes}
+use Rattle.arrays.proofs.Part.{part-lent, part-inside, part-after}
 
 -- exponents of a root that sum up to 255 lead around
 power-root : (i a b : ℕ) → a + b ≡ 255 → times (power (root i) a) (power (root i) b) ≡ 1

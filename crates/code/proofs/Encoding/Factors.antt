@@ -17,7 +17,7 @@ use Rattle.field.proofs.Logarithm.{times-comm, times-left-comm}
 use Rattle.field.proofs.Division.{inverse-lt, times-inverse}
 use Rattle.code.specs.Size.{most-checks, generator-room}
 use Rattle.code.specs.Polynomial.{eval, scaled, root, generator}
-use Rattle.code.proofs.Lists.Bytes.{Bytes, byte-at}
+use Rattle.arrays.proofs.Bytes.{Bytes, byte-at}
 use Rattle.code.proofs.Polynomials.Arithmetic.{eval-scaled, getD-scaled, length-scaled}
 use Rattle.code.proofs.Polynomials.Generator.{root-lt, getD-factor, generator-length, generator-bytes, generator-root, generator-constant}
 

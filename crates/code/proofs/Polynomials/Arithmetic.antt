@@ -12,7 +12,7 @@ use Rattle.field.proofs.Times.{times-lt, times-plus, one-times, zero-times, tim
 use Rattle.field.proofs.Power.{power-zero, power-suc, power-lt}
 use Rattle.field.proofs.Logarithm.{times-assoc, times-left-comm, plus-times}
 use Rattle.code.specs.Polynomial.{eval, added, scaled, multiplied, times-factor}
-use Rattle.code.proofs.Lists.Bytes.{Bytes, byte-at}
+use Rattle.arrays.proofs.Bytes.{Bytes, byte-at}
 
 -- the value of a sum, a multiple, a shift and a product
 pub eval-lt : (ps : List ℕ) (x : ℕ) → eval ps x < 256

@@ -16,7 +16,7 @@ use Rattle.field.proofs.Power.{power-lt, power-nonzero, doublings, power-doubli
 use Rattle.field.proofs.Logarithm.{no-zero-divisors}
 use Rattle.code.specs.Size.{most-checks}
 use Rattle.code.specs.Polynomial.{eval, scaled, first-exponent, root, Roots, times-factor, generator}
-use Rattle.code.proofs.Lists.Bytes.{Bytes, byte-at}
+use Rattle.arrays.proofs.Bytes.{Bytes, byte-at}
 use Rattle.code.proofs.Polynomials.Arithmetic.{eval-factor, getD-added, getD-scaled, bytes-added, bytes-scaled, length-added, length-scaled}
 
 -- the roots are bytes but 0

@@ -19,7 +19,8 @@ use Rattle.code.specs.Settings.{Settings, settings-refusal, check-count}
 use Rattle.code.specs.Polynomial.{eval, added, scaled, multiplied, root, generator, Remainder}
 use Rattle.code.specs.Plane.{summed, syndrome, is-codeword, data-polynomial, check-polynomial}
 use Rattle.code.specs.Promise.{Checks-remain}
-use Rattle.code.proofs.Lists.Bytes.{Bytes, bytes-of, byte-at, bytes-every, bytes-take, bytes-zeros, bytes-append, bytes-reverse}
+use Rattle.arrays.proofs.Bytes.{Bytes, byte-at, bytes-every, bytes-take, bytes-zeros, bytes-append, bytes-reverse}
+use Rattle.code.proofs.Tests.{bytes-of}
 use Rattle.arrays.proofs.Zeros.{zeros-at}
 use Rattle.code.proofs.Polynomials.Arithmetic.{eval-lt, eval-added, eval-multiplied, eval-append, eval-single, eval-zeros, eval-ext, getD-added, getD-scaled, getD-multiplied, bytes-added, bytes-scaled, bytes-multiplied, length-added, length-scaled}
 use Rattle.code.proofs.Polynomials.Generator.{root-lt, generator-length, generator-root, generator-leading}

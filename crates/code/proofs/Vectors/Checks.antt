@@ -11,7 +11,7 @@ use Rattle.code.specs.Settings.{Settings, check-count, value-size}
 use Rattle.code.specs.Plane.{is-codeword}
 use Rattle.code.specs.Vector.{plane, has-checks}
 use Rattle.code.specs.Promise.{Checks-there}
-use Rattle.code.proofs.Lists.Bytes.{Bytes, byte-at}
+use Rattle.arrays.proofs.Bytes.{Bytes, byte-at}
 use Rattle.code.proofs.Codewords.Word.{Word, word-of}
 use Rattle.code.proofs.Vectors.Planes.{Values, Vector, vector-of, plane-length, plane-bytes, checked-back, checks-unique}
 use Rattle.code.proofs.Polynomials.Remainder.{plane-checks}

@@ -12,7 +12,7 @@ use lib.ListN.{length, getD, take, drop, length-drop, take-append-drop}
 use lib.Seq.{take-add, getD-take, getD-drop, length-take-le, ext-getD}
 use Rattle.code.specs.Vector.{plane, cut, glued}
 use Rattle.arrays.specs.Array.{in-front}
-use Rattle.code.proofs.Lists.Bytes.{Bytes, bytes-take, bytes-drop}
+use Rattle.arrays.proofs.Bytes.{Bytes, bytes-take, bytes-drop}
 use Rattle.code.proofs.Vectors.Planes.{Values, plane-length}
 
 -- places

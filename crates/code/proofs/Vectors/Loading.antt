@@ -9,8 +9,9 @@ use native.Mathlib.Decide.{decLt}
 use lib.ListN.{length, getD}
 use Rattle.arrays.specs.Array.{all-zero, Written}
 use Rattle.arrays.proofs.Zeros.{zero-at}
-use Rattle.code.specs.Size.{row-width, place-rows}
-use Rattle.code.specs.Steps.Lanes.{in-row, Loaded, Stored}
+use Rattle.lanes.specs.Lanes.{row-width, in-row}
+use Rattle.code.specs.Size.{place-rows}
+use Rattle.code.specs.Steps.Rows.{Loaded, Stored}
 use Rattle.code.proofs.Vectors.Cut.{value-fits, next-value}
 
 pub loaded-none : (n size : ℕ) (vector bytes : List ℕ) → length bytes ≡ place-rows → all-zero bytes ≡ true → Loaded 0 n size vector bytes

@@ -16,8 +16,8 @@ use Rattle.code.specs.Settings.{Settings, settings-refusal, check-count,
 use Rattle.code.specs.Plane.{is-codeword, byte-list, differ}
 use Rattle.code.specs.Vector.{plane, each-long, is-vector, are-checks, planes-from, has-checks, same, differ-values}
 use Rattle.code.specs.Promise.{Repairs}
-use Rattle.code.proofs.Lists.Bytes.{Bytes, bytes-of, bytes-back, byte-at}
-use Rattle.code.proofs.Lists.Tests.{all-from, all-below-at, all-below-back}
+use Rattle.arrays.proofs.Bytes.{Bytes, byte-at}
+use Rattle.code.proofs.Tests.{bytes-of, bytes-back, all-from, all-below-at, all-below-back}
 use Rattle.code.proofs.Codewords.Near.{differ-self, plane-unique}
 
 -- values of so many bytes

@@ -5,8 +5,9 @@ use Prim.Native.Nat.{ℕ, _+_, _*_, _≤_}
 use native.Mathlib.Omega.{arith}
 use lib.ListN.{length, take, drop, length-append, length-drop}
 use lib.Seq.{length-take-le}
-use Rattle.code.specs.Size.{row-width, place-rows}
-use Rattle.code.proofs.Lists.Bytes.{bytes-every}
+use Rattle.lanes.specs.Lanes.{row-width}
+use Rattle.code.specs.Size.{place-rows}
+use Rattle.arrays.proofs.Bytes.{bytes-every}
 use Rattle.code.proofs.ValidSettings.{bounds}
 use Rattle.code.proofs.Encoding.Factors.{feedback-filled}
 use Rattle.code.proofs.Encoding.CheckValues.{checks-put}

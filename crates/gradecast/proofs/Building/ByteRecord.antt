@@ -14,7 +14,8 @@ use Rattle.arrays.proofs.Bool.{and-split}
 use Rattle.code.specs.Settings.{Settings, value-size}
 use Rattle.code.specs.Plane.{byte-list}
 use Rattle.code.specs.Vector.{is-vector}
-use Rattle.code.proofs.Lists.Bytes.{Bytes, bytes-of, bytes-drop, bytes-zeros}
+use Rattle.arrays.proofs.Bytes.{Bytes, bytes-drop, bytes-zeros}
+use Rattle.code.proofs.Tests.{bytes-of}
 use Rattle.code.proofs.Vectors.Planes.{Values, vector-of, vector-back}
 use Rattle.grading.specs.Value.{Value, Vector, Rows, blank, blanks}
 use Rattle.grading.specs.Count.{agreed-at, agreed-vector}

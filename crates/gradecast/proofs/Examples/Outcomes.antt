@@ -12,7 +12,7 @@ use Rattle.code.specs.Polynomial.{eval, added, scaled}
 use Rattle.code.specs.Plane.{byte-list}
 use Rattle.code.specs.Vector.{plane, each-long, is-vector, are-checks, same, differ-values, cut}
 use Rattle.code.specs.Entry.{values-in}
-use Rattle.code.proofs.Lists.Tests.{all-from}
+use Rattle.code.proofs.Tests.{all-from}
 use Rattle.code.proofs.Codewords.Quick.{quick-summed, quick-zero-from, quick-word, quick-planes-from, quick-checks}
 use Rattle.locator.specs.Locator.{massey, start, changed, longer, as-long, against, raised, quotient, value}
 use Rattle.locator.specs.Errors.{place-exponent}

@@ -13,7 +13,7 @@ use borrow.Author.Tests.{eqb-true, eq-eqb, ne-eqb, le-ltb, leb-true}
 use Rattle.arrays.proofs.Bool.{and-split, or-cases}
 use Rattle.code.specs.Settings.{Settings}
 use Rattle.code.specs.Vector.{same}
-use Rattle.code.proofs.Lists.Tests.{all-from, all-below-at}
+use Rattle.code.proofs.Tests.{all-from, all-below-at}
 use Rattle.code.proofs.Vectors.Planes.{same-equal}
 use Rattle.grading.specs.Value.{Value}
 use Rattle.grading.specs.Promise.{all-different}

@@ -18,8 +18,7 @@ use Rattle.code.specs.Settings.{Settings, settings-refusal, check-count, value-
 use Rattle.code.specs.Plane.{syndrome, byte-list}
 use Rattle.code.specs.Vector.{plane}
 use Rattle.code.specs.Repair.{Near, No-repair}
-use Rattle.code.proofs.Lists.Bytes.{bytes-of}
-use Rattle.code.proofs.Lists.Tests.{all-from, all-below-at}
+use Rattle.code.proofs.Tests.{bytes-of, all-from, all-below-at}
 use Rattle.code.proofs.Codewords.Word.{Shape}
 use Rattle.code.proofs.Codewords.Quick.{quick-summed, summed-quick}
 use Rattle.locator.specs.Locator.{massey, value}

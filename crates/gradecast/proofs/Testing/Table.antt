@@ -15,7 +15,7 @@ use Rattle.arrays.proofs.Bool.{and-split, true-not-false}
 use Rattle.code.specs.Settings.{Settings, settings-refusal}
 use Rattle.code.specs.Vector.{is-vector, differ-values}
 use Rattle.code.specs.Promise.{Repairs}
-use Rattle.code.proofs.Lists.Tests.{all-from, all-below-at}
+use Rattle.code.proofs.Tests.{all-from, all-below-at}
 use Rattle.code.proofs.Vectors.Planes.{repairs}
 use Rattle.code.proofs.Codewords.Quick.{quick-checks, checks-quick}
 use Rattle.grading.specs.Value.{Vector, Rows, blanks, entries}

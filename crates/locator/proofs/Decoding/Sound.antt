@@ -12,7 +12,7 @@ use Rattle.field.proofs.Xor.{plus-again}
 use Rattle.code.specs.Settings.{Settings, settings-refusal, check-count}
 use Rattle.code.specs.Plane.{syndrome}
 use Rattle.code.specs.Repair.{Near}
-use Rattle.code.proofs.Lists.Bytes.{Bytes, bytes-take, bytes-drop}
+use Rattle.arrays.proofs.Bytes.{Bytes, bytes-take, bytes-drop}
 use Rattle.code.proofs.Codewords.PowerSum.{power-sum}
 use Rattle.code.proofs.ValidSettings.{sizes}
 use Rattle.code.proofs.Codewords.Word.{Shape, word-back, word-errors, word-errors-sum}

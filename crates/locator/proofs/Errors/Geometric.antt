@@ -10,8 +10,7 @@ use Rattle.field.specs.Field.{times, power}
 use Rattle.field.proofs.Times.{zero-times}
 use Rattle.field.proofs.Power.{power-zero, power-suc}
 use Rattle.field.proofs.Logarithm.{times-one, times-left-comm}
-use Rattle.code.specs.Size.{row-width}
-use Rattle.code.specs.Steps.Lanes.{in-row}
+use Rattle.lanes.specs.Lanes.{row-width, in-row}
 use Rattle.locator.specs.Errors.{place-exponent}
 use Rattle.locator.specs.Plane.{Geometric-as, Single-at}
 use Rattle.locator.proofs.Errors.Places.{place-exponent-column, place-exponent-check}

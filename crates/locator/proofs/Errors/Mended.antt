@@ -16,7 +16,7 @@ use Rattle.field.proofs.Division.{divide-times}
 use Rattle.code.specs.Polynomial.{first-exponent}
 use Rattle.code.specs.Settings.{Settings, check-count}
 use Rattle.code.specs.Plane.{differ}
-use Rattle.code.proofs.Lists.Bytes.{Bytes}
+use Rattle.arrays.proofs.Bytes.{Bytes}
 use Rattle.code.proofs.Codewords.Place.{Place}
 use Rattle.code.proofs.Codewords.Errors.{errors}
 use Rattle.locator.specs.Errors.{error-byte, mended, wrong-places, place-exponent}

@@ -11,7 +11,7 @@ use Rattle.field.specs.Field.{plus, times, inverse}
 use Rattle.field.proofs.Division.{inverse-lt}
 use Rattle.code.specs.Size.{plane-room}
 use Rattle.code.specs.Polynomial.{added, scaled}
-use Rattle.code.proofs.Lists.Bytes.{byte-at, bytes-every}
+use Rattle.arrays.proofs.Bytes.{byte-at, bytes-every}
 use Rattle.code.proofs.Polynomials.Arithmetic.{getD-added, getD-scaled, bytes-scaled, length-added, length-scaled}
 use Rattle.locator.specs.Locator.{State, against, raised, start, longer, as-long, changed, massey}
 use Rattle.locator.specs.Held.{Holds, Stands, Fitting, Carries, located}

@@ -7,7 +7,7 @@ use native.Mathlib.Decide.{ℕ-discrete, decLe}
 use lib.ListN.{length, getD}
 use borrow.Author.Tests.{eq-eqb, ne-eqb, le-leb, lt-leb}
 use Rattle.field.specs.Field.{inverse}
-use Rattle.code.proofs.Lists.Bytes.{Bytes}
+use Rattle.arrays.proofs.Bytes.{Bytes}
 use Rattle.code.proofs.Polynomials.Arithmetic.{length-scaled, bytes-scaled}
 use Rattle.locator.specs.Locator.{against, raised, State, start, longer, as-long, changed, massey}
 use Rattle.locator.proofs.Polynomials.Monic.{Monic, monic-length, monic-bytes, monic-top, monic-raised, monic-added}

@@ -8,7 +8,7 @@ use native.Mathlib.Omega.{arith}
 use native.Mathlib.Decide.{decLe}
 use Rattle.field.specs.Field.{plus, times, power}
 use Rattle.code.specs.Polynomial.{eval}
-use Rattle.code.proofs.Lists.Bytes.{Bytes}
+use Rattle.arrays.proofs.Bytes.{Bytes}
 use Rattle.code.proofs.Codewords.Place.{Place, Byte-places, Different, All-zero, nonzero, weighed, weighed-bytes, weighed-different, weighed-nonzero}
 use Rattle.code.proofs.Codewords.PowerSum.{power-sum, power-sum-lt, power-sum-zero, few-nonzero}
 use Rattle.locator.specs.Locator.{against, start, longer, as-long, massey}

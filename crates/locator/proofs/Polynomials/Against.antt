@@ -13,7 +13,7 @@ use Rattle.field.proofs.Times.{times-lt, times-plus, zero-times, times-zero}
 use Rattle.field.proofs.Power.{power-lt, power-suc}
 use Rattle.field.proofs.Logarithm.{times-assoc, times-comm, times-left-comm, plus-times}
 use Rattle.code.specs.Polynomial.{eval, added, scaled}
-use Rattle.code.proofs.Lists.Bytes.{Bytes}
+use Rattle.arrays.proofs.Bytes.{Bytes}
 use Rattle.code.proofs.Polynomials.Arithmetic.{eval-lt}
 use Rattle.locator.specs.Locator.{against, raised}
 

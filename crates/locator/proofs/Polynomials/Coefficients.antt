@@ -14,7 +14,7 @@ use Rattle.field.proofs.Xor.{plus-zero}
 use Rattle.field.proofs.Times.{times-zero}
 use Rattle.code.specs.Size.{plane-room}
 use Rattle.code.specs.Polynomial.{added, scaled}
-use Rattle.code.proofs.Lists.Bytes.{Bytes, byte-at, bytes-every}
+use Rattle.arrays.proofs.Bytes.{Bytes, byte-at, bytes-every}
 use Rattle.code.proofs.Polynomials.Arithmetic.{getD-added, getD-scaled, bytes-scaled, length-added, length-scaled}
 use Rattle.locator.specs.Locator.{raised}
 use Rattle.locator.specs.Held.{Holds}

@@ -11,7 +11,7 @@ use Rattle.field.proofs.Xor.{plus-comm, plus-assoc, plus-self, plus-lt, plus-ze
 use Rattle.field.proofs.Times.{times-lt, times-plus, times-zero}
 use Rattle.field.proofs.Logarithm.{times-left-comm, plus-times}
 use Rattle.code.specs.Polynomial.{eval, added}
-use Rattle.code.proofs.Lists.Bytes.{Bytes}
+use Rattle.arrays.proofs.Bytes.{Bytes}
 use Rattle.code.proofs.Polynomials.Arithmetic.{eval-single}
 use Rattle.locator.specs.Locator.{raised, quotient}
 

@@ -11,10 +11,10 @@ use lib.ListN.{length, getD, set, length-set}
 use lib.Seq.{getD-set-same, getD-set-other}
 use borrow.Author.Count.{below-more}
 use borrow.Author.Tests.{eq-eqb, ne-eqb}
-use Rattle.code.specs.Steps.Lanes.{in-row, lane}
+use Rattle.lanes.specs.Lanes.{in-row, lane}
 use Rattle.locator.specs.Errors.{wrong-places}
 use Rattle.locator.specs.Plane.{Lane-written}
-use Rattle.code.proofs.Vectors.Lane.{lane-more}
+use Rattle.lanes.proofs.Lane.{lane-more}
 use Rattle.locator.proofs.Errors.Totals.{wrong-places-append}
 
 -- one more byte of a plane

@@ -7,7 +7,7 @@ use native.Mathlib.Omega.{arith}
 use native.Mathlib.Decide.{ℕ-discrete}
 use lib.ListN.{length, getD, set, length-set}
 use lib.Seq.{getD-set-same, getD-set-other}
-use Rattle.code.specs.Steps.Lanes.{in-row}
+use Rattle.lanes.specs.Lanes.{in-row}
 use Rattle.code.specs.Size.{most-places}
 use Rattle.locator.specs.Plane.{Listed, Lane-written}
 

@@ -6,11 +6,10 @@ use mathlib.Core.List.{List}
 use Prim.Native.Nat.{ℕ, _+_, _≤_, _<_}
 use native.Mathlib.Omega.{arith}
 use lib.ListN.{getD, replicate}
-use Rattle.code.specs.Size.{row-width}
+use Rattle.lanes.specs.Lanes.{row-width, in-row, lane}
 use Rattle.code.specs.Settings.{Settings, settings-refusal, check-count}
 use Rattle.code.specs.Plane.{syndrome}
-use Rattle.code.specs.Steps.Lanes.{in-row, lane}
-use Rattle.code.proofs.Vectors.Lane.{lane-length, lane-at, lane-bytes, lane-zeros}
+use Rattle.lanes.proofs.Lane.{lane-length, lane-at, lane-bytes, lane-zeros}
 use Rattle.locator.proofs.Decoder.{sound, complete-size, complete}
 use Rattle.sums.specs.Rows.{Check-sums}
 use Rattle.sums.proofs.Sums.CheckSums.{check-sums-syndrome, check-sums-spare}

@@ -8,11 +8,11 @@ use native.Mathlib.Omega.{arith}
 use native.Mathlib.Decide.{decLt, ℕ-discrete}
 use lib.ListN.{length, getD, take, List·getD-eq-default}
 use lib.Seq.{getD-take, ext-getD, length-take-le}
-use Rattle.code.specs.Size.{most-bad, plane-room, row-width, place-rows}
+use Rattle.code.specs.Size.{most-bad, plane-room, place-rows}
+use Rattle.lanes.specs.Lanes.{row-width, in-row, lane}
 use Rattle.code.specs.Settings.{Settings, settings, check-count}
 use Rattle.arrays.specs.Array.{Filled, all-zero}
-use Rattle.code.specs.Steps.Lanes.{in-row, lane}
-use Rattle.code.proofs.Vectors.Lane.{lane-length, lane-at}
+use Rattle.lanes.proofs.Lane.{lane-length, lane-at}
 use Rattle.arrays.proofs.Zeros.{zero-at}
 use Rattle.locator.specs.Locator.{massey, value}
 use Rattle.locator.specs.Errors.{wrong-places, Located}

@@ -10,9 +10,9 @@ use lib.ListN.{length, getD, set, take, length-set, List·getD-eq-default}
 use lib.Seq.{getD-set-same, getD-set-other, getD-take, length-take-le}
 use Rattle.arrays.specs.Array.{all-zero, Filled}
 use Rattle.arrays.proofs.Zeros.{zero-at}
-use Rattle.code.specs.Size.{plane-room, row-width, locator-rows}
-use Rattle.code.specs.Steps.Lanes.{in-row, lane}
-use Rattle.code.proofs.Vectors.Lane.{lane-is}
+use Rattle.code.specs.Size.{plane-room, locator-rows}
+use Rattle.lanes.specs.Lanes.{row-width, in-row, lane}
+use Rattle.lanes.proofs.Lane.{lane-is}
 use Rattle.locator.specs.Locator.{massey}
 use Rattle.locator.specs.Held.{Stands}
 use Rattle.locator.specs.Plane.{Lane-written}

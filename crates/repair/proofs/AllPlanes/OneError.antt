@@ -15,10 +15,10 @@ use Rattle.arrays.proofs.Zeros.{zero-at}
 use Rattle.field.specs.Field.{plus, times, power}
 use Rattle.field.proofs.Xor.{plus-self, plus-zero, zero-plus}
 use Rattle.field.proofs.Times.{times-lt, zero-times}
-use Rattle.code.specs.Size.{row-width, place-rows}
+use Rattle.lanes.specs.Lanes.{row-width, in-row, lane}
+use Rattle.code.specs.Size.{place-rows}
 use Rattle.code.specs.Settings.{Settings, check-count}
-use Rattle.code.specs.Steps.Lanes.{in-row, lane}
-use Rattle.code.proofs.Vectors.Lane.{lane-length, lane-at, lane-is}
+use Rattle.lanes.proofs.Lane.{lane-length, lane-at, lane-is}
 use Rattle.locator.specs.Errors.{wrong-places, error-sum, Explained, place-exponent}
 use Rattle.locator.specs.Plane.{Single-at}
 use Rattle.repair.specs.Steps.Planes.{plane-sums, Explains}

@@ -9,16 +9,15 @@ use lib.Seq.{getD-take}
 use Rattle.field.specs.Field.{times, power}
 use Rattle.field.proofs.Power.{power-zero, power-suc, power-lt}
 use Rattle.field.proofs.Logarithm.{times-one}
-use Rattle.code.specs.Size.{row-width}
+use Rattle.lanes.specs.Lanes.{row-width, in-row, lane}
 use Rattle.code.specs.Settings.{Settings, check-count}
 use Rattle.code.specs.Polynomial.{eval}
-use Rattle.code.specs.Steps.Lanes.{in-row, lane}
 use Rattle.code.proofs.Polynomials.Arithmetic.{eval-ext}
 use Rattle.locator.specs.Locator.{massey, value}
 use Rattle.locator.specs.Errors.{place-exponent, Located}
 use Rattle.sums.specs.Places.{Place-powers, Evaluated}
 use Rattle.locator.specs.Plane.{Lane-written}
-use Rattle.code.proofs.Vectors.Lane.{lane-length, lane-at, lane-is}
+use Rattle.lanes.proofs.Lane.{lane-length, lane-at, lane-is}
 
 -- the places themselves are their first powers
 pub places-at :

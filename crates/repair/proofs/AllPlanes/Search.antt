@@ -9,10 +9,9 @@ use native.Mathlib.Decide.{decLt}
 use lib.ListN.{getD, List·getD-eq-default}
 use Rattle.field.specs.Field.{plus}
 use Rattle.field.proofs.Power.{power-lt}
-use Rattle.code.specs.Size.{row-width}
+use Rattle.lanes.specs.Lanes.{row-width, in-row, lane}
 use Rattle.code.specs.Settings.{Settings, settings, check-count}
-use Rattle.code.specs.Steps.Lanes.{in-row, lane}
-use Rattle.code.proofs.Vectors.Lane.{lane-length, lane-at}
+use Rattle.lanes.proofs.Lane.{lane-length, lane-at}
 use Rattle.code.proofs.Polynomials.Arithmetic.{eval-ext}
 use Rattle.locator.specs.Locator.{massey}
 use Rattle.locator.specs.Errors.{error-sum, wrong-places}

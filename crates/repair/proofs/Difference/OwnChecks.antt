@@ -14,7 +14,7 @@ use Rattle.arrays.specs.Array.{in-front}
 use Rattle.code.specs.Settings.{settings, settings-refusal, check-count, value-size}
 use Rattle.code.specs.Vector.{is-vector, are-checks, has-checks, cut, glued}
 use Rattle.code.specs.Entry.{values-in, Checks-put, Checks-says}
-use Rattle.code.proofs.Lists.Bytes.{Bytes}
+use Rattle.arrays.proofs.Bytes.{Bytes}
 use Rattle.code.proofs.Vectors.Cut.{cut-length, cut-values}
 use Rattle.code.proofs.Encoding.Entry.{checks-given}
 use Rattle.code.proofs.Vectors.Planes.{Values, values-back, vector-back, checked-of}

@@ -13,7 +13,7 @@ use Rattle.code.specs.Settings.{Settings, check-count, value-size}
 use Rattle.code.specs.Polynomial.{added}
 use Rattle.code.specs.Vector.{plane, each-long, is-vector, are-checks, has-checks}
 use Rattle.code.specs.Repair.{Near, Repaired, No-repair}
-use Rattle.code.proofs.Lists.Bytes.{Bytes}
+use Rattle.arrays.proofs.Bytes.{Bytes}
 use Rattle.code.proofs.Vectors.Planes.{Values, values-of, Vector, vector-of, vector-back, Checked, checked-of, plane-length, plane-bytes}
 use Rattle.code.proofs.Codewords.Linear.{near-plus}
 use Rattle.repair.specs.Difference.{plus-values, zeros}

@@ -9,7 +9,7 @@ use Rattle.field.proofs.Xor.{plus-self, plus-zero, plus-again}
 use Rattle.code.specs.Settings.{Settings, value-size}
 use Rattle.code.specs.Polynomial.{added}
 use Rattle.code.specs.Vector.{plane, cut}
-use Rattle.code.proofs.Lists.Bytes.{Bytes, bytes-zeros}
+use Rattle.arrays.proofs.Bytes.{Bytes, bytes-zeros}
 use Rattle.arrays.proofs.Zeros.{zeros-at}
 use Rattle.code.proofs.Polynomials.Arithmetic.{length-added, bytes-added, getD-added}
 use Rattle.code.proofs.Vectors.Planes.{Values}

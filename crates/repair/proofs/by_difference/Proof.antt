@@ -5,10 +5,11 @@ use native.Mathlib.Omega.{arith}
 use borrow.Author.Tests.{not-true, not-false}
 use Rattle.arrays.proofs.Zeros.{zero-at}
 use Rattle.arrays.proofs.Front.{copied}
-use Rattle.code.specs.Size.{most-columns, row-width}
+use Rattle.code.specs.Size.{most-columns}
+use Rattle.lanes.specs.Lanes.{row-width}
 use Rattle.code.specs.Settings.{settings, value-size}
 use Rattle.code.specs.Entry.{values-in}
-use Rattle.code.proofs.Lists.Bytes.{Bytes, bytes-every}
+use Rattle.arrays.proofs.Bytes.{Bytes, bytes-every}
 use Rattle.code.proofs.ValidSettings.{sizes, value-in-row}
 use Rattle.repair.specs.Entry.{none-found}
 use Rattle.repair.proofs.Answer.{some-bad, decoded-long, answer-none, answer-found, answer-same}

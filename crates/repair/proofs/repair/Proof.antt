@@ -10,7 +10,7 @@ use Rattle.code.specs.Size.{checks-room}
 use Rattle.code.specs.Settings.{settings, settings-refusal}
 use Rattle.code.specs.Vector.{has-checks}
 use Rattle.code.specs.Entry.{values-in}
-use Rattle.code.proofs.Lists.Bytes.{bytes-every}
+use Rattle.arrays.proofs.Bytes.{bytes-every}
 use Rattle.code.proofs.ValidSettings.{check-room, sizes}
 use Rattle.repair.specs.Entry.{By-own-checks}
 use Rattle.repair.proofs.Difference.ByOwnChecks.{by-own-checks}

@@ -3,7 +3,7 @@ use mathlib.Core.List.{List, [], _∷_}
 use Prim.Native.Nat.{ℕ, zero, suc, _*_, _-_}
 use lib.ListN.{take, drop}
 use Rattle.field.specs.Field.{power, inverse}
-use Rattle.code.specs.Size.{row-width}
+use Rattle.lanes.specs.Lanes.{row-width}
 use Rattle.code.specs.Polynomial.{first-exponent, scaled}
 
 -- the errors of so many columns from column k on, as values of so many bytes: a weight is divided out

@@ -4,10 +4,10 @@ use mathlib.Core.Bool.{Bool, true, false}
 use mathlib.Core.List.{List}
 use Prim.Native.Nat.{ℕ, _+_, _≤_, _<_}
 use lib.ListN.{length, getD, replicate}
-use Rattle.code.specs.Size.{row-width, place-rows, locator-rows}
+use Rattle.lanes.specs.Lanes.{row-width, in-row, lane}
+use Rattle.code.specs.Size.{place-rows, locator-rows}
 use Rattle.code.specs.Settings.{Settings, check-count}
 use Rattle.code.specs.Repair.{Near}
-use Rattle.code.specs.Steps.Lanes.{in-row, lane}
 use Rattle.locator.specs.Locator.{massey}
 use Rattle.locator.specs.Errors.{wrong-places, Located, Explained, Near-errors}
 

@@ -13,14 +13,14 @@ use Rattle.arrays.proofs.Zeros.{zero-at}
 use Rattle.field.specs.Field.{plus, times, power}
 use Rattle.field.proofs.Power.{power-lt}
 use Rattle.field.proofs.Logarithm.{times-comm}
-use Rattle.code.specs.Size.{most-places, row-width, place-rows}
+use Rattle.code.specs.Size.{most-places, place-rows}
+use Rattle.lanes.specs.Lanes.{row-width, in-row, lane, Products-added}
 use Rattle.code.specs.Polynomial.{eval}
-use Rattle.code.specs.Steps.Lanes.{in-row, lane, Products-added}
 use Rattle.code.proofs.Polynomials.Arithmetic.{eval-append, eval-single}
 use Rattle.locator.specs.Locator.{value}
 use Rattle.locator.specs.Errors.{place-exponent}
 use Rattle.sums.specs.Places.{Place-powers, Evaluated}
-use Rattle.code.proofs.Vectors.Lane.{lane-length, lane-more}
+use Rattle.lanes.proofs.Lane.{lane-length, lane-more}
 
 -- the polynomials of all planes, one more row of coefficients at a time
 eval-lane-more :

@@ -17,7 +17,7 @@ use Rattle.code.specs.Polynomial.{first-exponent, root, Roots}
 use Rattle.code.specs.Size.{most-places}
 use Rattle.locator.specs.Errors.{place-exponent}
 use Rattle.sums.specs.Places.{Place-powers}
-use Rattle.code.proofs.Lists.Part.{part-long}
+use Rattle.arrays.proofs.Part.{part-long}
 use Rattle.locator.proofs.Errors.Places.{place-exponent-column, place-exponent-check}
 
 -- falling exponents

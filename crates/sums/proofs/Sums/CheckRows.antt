@@ -11,14 +11,14 @@ use lib.ListN.{length, getD, replicate}
 use Rattle.arrays.specs.Array.{all-zero, Written}
 use Rattle.arrays.proofs.Zeros.{zero-at}
 use Rattle.field.specs.Field.{plus}
-use Rattle.code.specs.Size.{row-width, check-rows}
+use Rattle.lanes.specs.Lanes.{row-width, in-row, lane}
+use Rattle.code.specs.Size.{check-rows}
 use Rattle.code.specs.Polynomial.{added}
 use Rattle.code.specs.Vector.{plane, cut}
-use Rattle.code.specs.Steps.Lanes.{in-row, lane}
 use Rattle.code.proofs.Polynomials.Arithmetic.{length-added}
 use Rattle.sums.specs.Rows.{Values-added}
 use Rattle.code.proofs.Vectors.Cut.{plane-cut, plane-cut-length}
-use Rattle.code.proofs.Vectors.Lane.{lane-is, lane-zeros}
+use Rattle.lanes.proofs.Lane.{lane-is, lane-zeros}
 
 -- a value before the last ends within the list
 pub value-within : (c count size k : ℕ) → c < count → count * size ≤ k → c * size + size ≤ k

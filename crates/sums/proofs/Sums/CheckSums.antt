@@ -12,14 +12,14 @@ use Rattle.arrays.proofs.Zeros.{zero-at}
 use Rattle.field.specs.Field.{plus, times, power}
 use Rattle.field.proofs.Xor.{plus-assoc, plus-lt, plus-zero, zero-plus}
 use Rattle.field.proofs.Times.{times-lt, zero-times}
-use Rattle.code.specs.Size.{row-width, check-rows}
+use Rattle.lanes.specs.Lanes.{row-width, in-row, lane}
+use Rattle.code.specs.Size.{check-rows}
 use Rattle.code.specs.Settings.{Settings, check-count}
 use Rattle.code.specs.Polynomial.{root}
 use Rattle.code.specs.Plane.{summed, syndrome}
-use Rattle.code.specs.Steps.Lanes.{in-row, lane}
 use Rattle.sums.specs.Rows.{Check-sums}
 use Rattle.sums.proofs.Sums.Terms.{Terms-added}
-use Rattle.code.proofs.Vectors.Lane.{lane-length, lane-more}
+use Rattle.lanes.proofs.Lane.{lane-length, lane-more}
 
 -- bytes times falling powers: one more byte at the end, and zero bytes
 summed-lt : (x k : ℕ) (us : List ℕ) → summed x k us < 256

@@ -16,10 +16,10 @@ use Rattle.field.specs.Field.{plus, times, power}
 use Rattle.field.proofs.Xor.{plus-zero}
 use Rattle.field.proofs.Times.{times-lt, zero-times}
 use Rattle.field.proofs.Power.{power-mul}
-use Rattle.code.specs.Size.{row-width, check-rows}
+use Rattle.lanes.specs.Lanes.{row-width, in-row, lane}
+use Rattle.code.specs.Size.{check-rows}
 use Rattle.code.specs.Settings.{Settings, check-count}
-use Rattle.code.specs.Steps.Lanes.{in-row, lane}
-use Rattle.code.proofs.Vectors.Lane.{lane-length, lane-more, lane-zeros}
+use Rattle.lanes.proofs.Lane.{lane-length, lane-more, lane-zeros}
 use Rattle.locator.specs.Errors.{place-exponent, error-sum}
 use Rattle.locator.proofs.Errors.Totals.{error-sum-append}
 use Rattle.sums.specs.Rows.{Error-sums, residue, Explained-as}

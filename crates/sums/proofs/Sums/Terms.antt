@@ -9,9 +9,8 @@ use Rattle.arrays.specs.Array.{Filled}
 use Rattle.field.specs.Field.{plus, times}
 use Rattle.field.proofs.Xor.{plus-zero}
 use Rattle.field.proofs.Times.{zero-times}
-use Rattle.code.specs.Size.{row-width}
-use Rattle.code.proofs.Lists.Part.{part-long}
-use Rattle.code.specs.Steps.Lanes.{in-row, Products-added}
+use Rattle.lanes.specs.Lanes.{row-width, in-row, Products-added}
+use Rattle.arrays.proofs.Part.{part-long}
 
 -- row j, lent as a part of the rows
 module _ (rows : List ℕ) (j : ℕ) where

@@ -2,7 +2,7 @@
 use mathlib.Core.Path.{_≡_, refl}
 use Prim.Native.Nat.{_-_, _≤_}
 use native.Mathlib.Omega.{arith}
-use Rattle.code.specs.Steps.Lanes.{Loaded}
+use Rattle.code.specs.Steps.Rows.{Loaded}
 use Rattle.code.proofs.Vectors.Cut.{start-fits, value-ends}
 use Rattle.code.proofs.Vectors.Loading.{loaded-none, loaded-more, loaded-to}
 use Rattle.code.proofs.planes.load.Statement.{statement}

@@ -2,7 +2,7 @@
 use mathlib.Core.Path.{_≡_}
 use Prim.Native.Nat.{_-_, _≤_}
 use native.Mathlib.Omega.{arith}
-use Rattle.code.specs.Steps.Lanes.{Stored}
+use Rattle.code.specs.Steps.Rows.{Stored}
 use Rattle.code.proofs.Vectors.Cut.{value-fits}
 use Rattle.code.proofs.Vectors.Loading.{stored-none, stored-more, stored-to}
 use Rattle.code.proofs.planes.store.Statement.{statement}

@@ -3,9 +3,9 @@ use mathlib.Core.Path.{_≡_, refl}
 use Prim.Native.Nat.{_+_, _*_, _-_, _≤_}
 use native.Mathlib.Omega.{arith}
 use lib.ListN.{length}
-use Rattle.code.specs.Size.{row-width}
-use Rattle.code.specs.Steps.Lanes.{Divided}
-use Rattle.code.proofs.Lists.Bytes.{bytes-every}
+use Rattle.lanes.specs.Lanes.{row-width}
+use Rattle.code.specs.Steps.Rows.{Divided}
+use Rattle.arrays.proofs.Bytes.{bytes-every}
 use Rattle.code.proofs.Encoding.Division.{divided-none, divided-part, divided-to}
 use Rattle.code.proofs.register.divide.Statement.{statement}
 use Rattle.code.proofs.register.divide.Tie as tie

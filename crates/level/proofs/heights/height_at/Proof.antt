@@ -4,7 +4,7 @@ use mathlib.Core.List.{List, [], _∷_}
 use Prim.Native.Nat.{ℕ, _+_, _*_, _<_}
 use native.Mathlib.Omega.{arith}
 use lib.ListN.{getD, take, drop}
-use Rattle.code.proofs.Lists.Part.{part-lent}
+use Rattle.arrays.proofs.Part.{part-lent}
 use Rattle.level.specs.Level.{height}
 use Rattle.level.proofs.Integers.{stored, height-of}
 use Rattle.level.proofs.heights.height_at.Statement.{statement}

@@ -3,7 +3,7 @@ use mathlib.Core.Path.{_≡_, refl, _∙_, ap}
 use mathlib.Core.Logic.{⊎-elim}
 use Prim.Native.Nat.{ℕ, _-_, _≤_}
 use native.Mathlib.Omega.{arith}
-use Rattle.code.specs.Steps.Lanes.{lane}
+use Rattle.lanes.specs.Lanes.{lane}
 use Rattle.locator.specs.Errors.{wrong-places}
 use Rattle.locator.proofs.Rows.Lanes.{one-wrong-more, none-wrong-more}
 use Rattle.locator.proofs.plane.count_wrong.Statement.{statement}

@@ -4,7 +4,7 @@ use mathlib.Core.Logic.{⊎-elim}
 use Prim.Native.Nat.{ℕ, _+_, _-_, _≤_}
 use native.Mathlib.Omega.{arith}
 use lib.ListN.{getD, set}
-use Rattle.code.specs.Steps.Lanes.{in-row}
+use Rattle.lanes.specs.Lanes.{in-row}
 use Rattle.locator.specs.Plane.{Listed}
 use Rattle.locator.proofs.Rows.Listing.{listed-none, listed-root, listed-other, listed-to}
 use Rattle.locator.proofs.plane.root_places.Statement.{statement}

@@ -5,7 +5,7 @@ use Prim.Native.Nat.{_-_, _≤_, _<_}
 use native.Mathlib.Omega.{arith}
 use lib.ListN.{length, getD}
 use borrow.Author.Needs.{needs}
-use Rattle.code.specs.Steps.Lanes.{in-row}
+use Rattle.lanes.specs.Lanes.{in-row}
 use Rattle.locator.specs.Locator.{value}
 use Rattle.locator.proofs.Polynomials.Steps.{value-no-root}
 use Rattle.locator.proofs.Rows.Listing.{Listed-written, listed-written-none, listed-written-more, listed-written-lane}

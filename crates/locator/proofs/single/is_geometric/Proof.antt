@@ -5,8 +5,7 @@ use native.Mathlib.Omega.{arith}
 use lib.ListN.{getD}
 use borrow.Author.Count.{below-more}
 use Rattle.field.specs.Field.{times}
-use Rattle.code.specs.Steps.Lanes.{in-row}
-use Rattle.code.specs.Size.{row-width}
+use Rattle.lanes.specs.Lanes.{in-row, row-width}
 use Rattle.locator.specs.Plane.{Geometric-as}
 use Rattle.locator.proofs.single.is_geometric.Statement.{statement}
 use Rattle.locator.proofs.single.is_geometric.Tie as tie

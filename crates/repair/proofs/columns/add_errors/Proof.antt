@@ -8,7 +8,7 @@ use Rattle.arrays.specs.Array.{Filled}
 use Rattle.arrays.proofs.Written.{filled-none, filled-more, filled-to}
 use Rattle.arrays.proofs.Zeros.{first-zero-at}
 use Rattle.field.specs.Field.{plus, times}
-use Rattle.code.specs.Size.{row-width}
+use Rattle.lanes.specs.Lanes.{row-width}
 use Rattle.repair.proofs.ColumnErrors.{value-kept}
 use borrow.Author.Needs.{needs}
 use Rattle.repair.proofs.columns.add_errors.Statement.{statement}

@@ -3,10 +3,10 @@ use mathlib.Core.Path.{_≡_, sym, _∙_, ap}
 use Prim.Native.Nat.{ℕ, _+_, _*_, _-_, _≤_}
 use native.Mathlib.Omega.{arith}
 use lib.ListN.{length, take, drop}
-use Rattle.code.specs.Size.{row-width}
-use Rattle.code.proofs.Lists.Bytes.{bytes-every}
+use Rattle.lanes.specs.Lanes.{row-width}
+use Rattle.arrays.proofs.Bytes.{bytes-every}
 use Rattle.code.proofs.Vectors.Cut.{value-fits}
-use Rattle.code.proofs.Lists.Part.{part-long}
+use Rattle.arrays.proofs.Part.{part-long}
 use Rattle.repair.proofs.ColumnErrors.{Mended-to, mended-none, mended-long, mended-more, mended-whole}
 use Rattle.repair.proofs.columns.apply_errors.Statement.{statement}
 use Rattle.repair.proofs.columns.apply_errors.Tie as tie

@@ -5,7 +5,7 @@ use native.Mathlib.Omega.{arith}
 use lib.ListN.{length, getD, take}
 use lib.Seq.{length-take-le}
 use Rattle.code.specs.Settings.{settings, check-count}
-use Rattle.code.specs.Steps.Lanes.{lane}
+use Rattle.lanes.specs.Lanes.{lane}
 use Rattle.locator.specs.Errors.{wrong-places}
 use Rattle.repair.specs.Steps.Planes.{Weighted, Counted-as}
 use Rattle.repair.proofs.AllPlanes.Rows.{locator-values}

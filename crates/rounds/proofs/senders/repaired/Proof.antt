@@ -6,7 +6,7 @@ use lib.ListN.{length, take, drop, replicate, length-drop}
 use lib.Seq.{length-take-le}
 use borrow.Author.Needs.{needs}
 use Rattle.code.specs.Settings.{settings, check-count, value-size}
-use Rattle.code.proofs.Lists.Bytes.{Bytes, bytes-take, bytes-drop}
+use Rattle.arrays.proofs.Bytes.{Bytes, bytes-take, bytes-drop}
 use Rattle.code.proofs.ValidSettings.{sizes, Sizes}
 use Rattle.record.specs.Frame.{operand-in, header-size, operand-size}
 use Rattle.rounds.specs.Exchange.{Row}

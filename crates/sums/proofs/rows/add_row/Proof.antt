@@ -4,7 +4,7 @@ use native.Mathlib.Omega.{arith}
 use lib.Seq.{length-take-le}
 use borrow.Author.Needs.{needs}
 use Rattle.arrays.proofs.Zeros.{first-zero-at}
-use Rattle.code.specs.Size.{row-width}
+use Rattle.lanes.specs.Lanes.{row-width}
 use Rattle.sums.proofs.Sums.Terms.{products-of-zeros}
 use Rattle.sums.proofs.rows.add_row.Statement.{statement}
 use Rattle.sums.proofs.rows.add_row.Tie as tie

@@ -1,3 +1,0 @@
--- Products of all planes of a value with constants, by rows.
-pub mod Doublings
-pub mod Multiples

@@ -1,0 +1,3 @@
+pub mod Lane
+pub mod Multiples
+pub mod Bits
