@@ -8,12 +8,13 @@ use mathlib.Core.Option.{Option, none, some}
 use Prim.Native.Nat.{ℕ, zero, suc, _+_, _-_, _≤_}
 use native.Mathlib.Omega.{arith}
 use Rattle.grading.specs.Value.{Value}
-use Rattle.record.specs.Record.{Rec}
+use Rattle.record.specs.Record.{Rec, In-time}
 use Rattle.record.specs.Refusal.{open-refusal}
 use Rattle.column.specs.Call.{Call, here}
 use Rattle.record.proofs.Refusal.{Opens, opens-of}
 use Rattle.gradecast.specs.Promise.{Good, Ran, On, Round-frame, Handed, Fair}
 use Rattle.gradecast.proofs.Walk.{run-passes}
+use Rattle.gradecast.proofs.Handed.{handed-in-round}
 use Rattle.bench_file.specs.Scenario.{Scenario, own-of, is-good}
 use Rattle.bench.specs.Group.{bench-run, heard-in, round-calls, Group-run}
 use Rattle.bench.proofs.Running.Exchanged.{In-round, good-own}
@@ -74,18 +75,18 @@ module _
 
     -- a reader l and a sender k
     module _ (l k : ℕ) (reader : is-good f l ≡ true) (sender : is-good f k ≡ true) (two : k ≡ l → ⊥) where
-      handed : (m n : ℕ) → m + suc n ≡ 3 → Handed (f .settings) bench-run (column l) (column k) (suc m) (frames (suc m) k)
-      unfolding good rounds-from round-calls
+      Handed-in-time : (round : ℕ) → List ℕ → Type 0
+      Handed-in-time m x = (h : Handed (f .settings) bench-run (column l) (column k) x) × In-time (h .at .round) m
+
+      handed : (m n : ℕ) → m + suc n ≡ 3 → Handed-in-time (suc m) (frames (suc m) k)
+      unfolding Handed-in-time good rounds-from round-calls
       handed m n h =
           let t =
           heard-taken (heard-in f (frames (suc m)) (suc m) l) k (frames (suc m) k) (heard-good f (frames (suc m)) (suc m) l k two sender) (f .settings .n) 1 _ _
           (right k sender .low) (omega (arith, right k sender .high)) (run .rounds (suc m) l (omega arith) (omega arith) reader) in
-          record {
-            at = t .at;
-            rest = _;
-            on = passes-join (reach l reader m (suc n) h) (passes-more (rounds-from f frames l n (suc (suc m))) (t .passes));
-            in-round = t .in-round ∙ stands-in l reader (suc m) (omega arith) (omega arith) .round;
-          }
+          handed-in-round (suc m)
+          (record { at = t .at; rest = _; on = passes-join (reach l reader m (suc n) h) (passes-more (rounds-from f frames l n (suc (suc m))) (t .passes)) })
+          (t .in-round ∙ stands-in l reader (suc m) (omega arith) (omega arith) .round)
 
       sent : (m n : ℕ) → m + suc n ≡ 3 → Round-frame (f .settings) bench-run (column k) (suc m) (frames (suc m) k)
       sent m n h =
@@ -115,12 +116,12 @@ module _
           (taken-sent (suc m) n (omega arith))
 
       pub fair : Fair (f .settings) bench-run (column l) (column k)
-      unfolding good Sent Only-sent
-      fair = record { sends = sends; only = λ m x h long same-run. takes-at Only-sent k x (taken-sent 0 3 refl) (h .on) refl }
+      unfolding Handed-in-time good Sent Only-sent
+      fair = record { sends = sends; only = λ x h long same-run. takes-at Only-sent k x (taken-sent 0 3 refl) (h .on) refl }
         where
           sends :
               (m : ℕ) → 1 ≤ m → m ≤ 3 →
-              (x : List ℕ) × Round-frame (f .settings) bench-run (column k) m x × Handed (f .settings) bench-run (column l) (column k) m x
+              (x : List ℕ) × Round-frame (f .settings) bench-run (column k) m x × Handed-in-time m x
           sends zero low high = absurd (omega arith)
           sends (suc m) low high =
               let three : m + suc (2 - m) ≡ 3 = omega arith in (frames (suc m) k, sent m (2 - m) three, handed m (2 - m) three)

@@ -4,3 +4,4 @@ pub mod Sent
 pub mod Step
 pub mod Asked
 pub mod Outcome
+pub mod NothingFollows

@@ -1,13 +1,14 @@
 -- Each call has one outcome. The answer is the table's, and the record or the lent bytes follow from it: most are written out, a frame is
 -- its header and the one operand that the round's vector has, and a round closed goes by a table, of which there is one. And what `send`
--- wrote, `take` takes. Assumes nothing.
+-- wrote, `take` takes; a round early it counts after the closing. Assumes nothing.
 use mathlib.Core.Path.{_≡_, refl, sym, _∙_, ap, ap₂}
 use mathlib.Core.Bool.{Bool, true, false}
 use mathlib.Core.List.{List, _++_}
+use mathlib.Core.Option.{Option, some}
 use Prim.Native.Nat.{ℕ, zero, suc, _*_}
 use native.Mathlib.Omega.{arith}
 use lib.Dec.{eqb}
-use lib.ListN.{length, take, drop, take-append-drop}
+use lib.ListN.{length, drop, take-append-drop}
 use lib.Seq.{take-all}
 use borrow.Author.Tests.{eqb-true, eqb-false}
 use Rattle.arrays.specs.Array.{in-front}
@@ -15,21 +16,23 @@ use Rattle.arrays.proofs.Front.{front-value}
 use Rattle.code.specs.Settings.{Settings, settings-refusal, check-count, value-size}
 use Rattle.code.specs.Vector.{has-checks, glued}
 use Rattle.code.specs.Entry.{values-in}
+use Rattle.code.proofs.ValidSettings.{sizes}
 use Rattle.code.proofs.Vectors.Cut.{cut-length, glued-cut}
 use Rattle.code.proofs.Vectors.Planes.{checks-unique}
-use Rattle.record.specs.Frame.{header-size, operand-size, frame-size, operand-in, checks-in}
-use Rattle.record.specs.Record.{Who, Found, Rec, who-as}
-use Rattle.record.specs.Refusal.{record-refusal, take-refusal, send-refusal, close-refusal}
+use Rattle.record.specs.Frame.{header-size, operand-size, frame-size, round-in, operand-in, checks-in}
+use Rattle.record.specs.Record.{Who, Found, Rec, who-as, taken-at, counted, with-frame}
+use Rattle.record.specs.Refusal.{record-refusal, send-refusal, close-refusal}
 use Rattle.column.specs.Call.{closing, Leads, Operand, Frame-of}
 use Rattle.record.specs.View.{settings-of, who-in, view}
-use Rattle.record.specs.Stored.{found-now, one-on, after-refusal}
+use Rattle.record.specs.Stored.{with-slot, found-now, one-on, after-refusal}
 use Rattle.column.specs.Entry.{Send-says, Close-says}
-use Rattle.column.specs.Promise.{One-outcome, Sent-taken}
+use Rattle.column.specs.Promise.{One-outcome, sent-frame, Sent-taken, Sent-counts}
 use Rattle.record.specs.declared.Column.{Column}
-use Rattle.record.proofs.Refusal.{first-of-zero, record-settings, record-number, close-record, close-settings}
-use Rattle.column.proofs.Frame.{frame-fresh, operand-length}
-use Rattle.record.proofs.View.{found-heard, found-agreed}
-use Rattle.column.proofs.Step.{closing-leads}
+use Rattle.record.proofs.Refusal.{first-of-zero, record-settings, record-number, close-record, close-settings, close-fine}
+use Rattle.record.proofs.There.{early-here}
+use Rattle.column.proofs.Frame.{frame-round, frame-fits-its-round, frame-fresh, operand-length}
+use Rattle.record.proofs.View.{frames-length, view-slot, found-heard, found-agreed}
+use Rattle.column.proofs.Step.{Closes, closing-leads, closes-now}
 use Rattle.rounds.proofs.Rows.{closed-unique}
 
 -- done or refused
@@ -142,14 +145,61 @@ one-outcome =
               (λ z. x .refused z ∙ sym (y .refused (λ u. z (same ∙ u)))),
         )
 
--- what `send` wrote is taken
-pub sent-taken : Sent-taken
-unfolding Sent-taken Frame-of view who-in who-as
-sent-taken c d d-now buffer buffer-now answer sent fine settings run round other empty taken =
+-- what `send` wrote is a frame of the sender's round
+sent-is-frame : (c : Column) (buffer buffer-now : List ℕ) → Send-says c buffer 0 buffer-now → Frame-of (view c) (sent-frame c buffer-now)
+unfolding Frame-of view who-in who-as sent-frame
+sent-is-frame c buffer buffer-now sent =
     let f = sent .done refl in
     let size : length (f .0) ≡ frame-size (settings-of (c .who)) (c .round) = f .1 .1 in
-    let front : take (frame-size (settings-of (c .who)) (c .round)) buffer-now ≡ f .0 =
-    ap (take (frame-size (settings-of (c .who)) (c .round))) (f .2) ∙ front-value (f .0) buffer _ size in
-    let fresh = frame-fresh (view d) (view c) (f .0) fine (send-record (view c) (length buffer) (sym (sent .answered))) settings run round (f .1) other empty in
-    let zero = taken .answered ∙ ap (take-refusal (view d) (c .who .number)) front ∙ fresh in
+    rw (f .2, front-value (f .0) buffer _ size) (f .1)
+
+-- it is taken
+pub sent-taken : Sent-taken
+unfolding Sent-taken view who-in who-as
+sent-taken c d d-now buffer buffer-now answer sent a taken =
+    let fresh =
+    frame-fresh (view d) (view c) (sent-frame c buffer-now) (a .fine) (send-record (view c) (length buffer) (sym (sent .answered))) (a .same-settings) (a .same-run)
+    (a .due) (a .low) (sent-is-frame c buffer buffer-now sent) (a .two) (a .empty) in
+    let zero = taken .answered ∙ fresh in
     (zero, taken .done zero)
+
+-- and counts in the next round where the reader is one behind: its closing is not refused, and makes the early frames those of the round
+pub sent-counts : Sent-counts
+unfolding Sent-taken Sent-counts counted view who-in who-as with-frame
+sent-counts c d d-now e buffer buffer-now answer closed sent a next long taken closes =
+    (closes .answered ∙ fine, way .round ∙ round ∙ sym next, ap (λ (fs : List (Option (List ℕ))). taken-at fs k) (way .frames) ∙ there)
+  where
+    k : ℕ
+    k = c .who .number
+
+    bs : List ℕ
+    bs = sent-frame c buffer-now
+
+    frame : Frame-of (view c) bs
+    frame = sent-is-frame c buffer buffer-now sent
+
+    done : (answer ≡ 0) × (d-now ≡ with-slot d k bs)
+    done = sent-taken c d d-now buffer buffer-now answer sent a taken
+
+    reads : view d-now ≡ with-frame (view d) (round-in bs) k (operand-in bs)
+    reads = ap view (done .1) ∙ view-slot d k bs (sym (taken .answered) ∙ done .0)
+
+    fine : close-refusal (view d-now) ≡ 0
+    fine =
+        let three = frame-round (view c) bs frame .1 in
+        rw reads (close-fine (with-frame (view d) (round-in bs) k (operand-in bs)) (a .fine) (a .low) (omega arith))
+
+    way : Closes (view d-now) (view e)
+    way = closes-now (view d-now) (view e) fine (closes .reads)
+
+    round : suc (view d-now .round) ≡ suc (d .round)
+    round = ap (λ (r : Rec). suc (r .round)) reads
+
+    there : taken-at (view d-now .early) k ≡ some (operand-in bs)
+    there =
+        let number = record-number (view c .who) (send-record (view c) (length buffer) (sym (sent .answered))) in
+        let few = sizes (settings-of (d .who)) (record-settings (view d .who) (a .fine)) .few-columns in
+        let room = frames-length (settings-of (d .who)) (suc (d .round)) (d .early) (rw long few) in
+        ap (λ (r : Rec). taken-at (r .early) k) reads
+        ∙ early-here (view d) (round-in bs) k (operand-in bs) (frame-fits-its-round (view c) bs frame .round ∙ next) (number .0)
+        (rw (room, a .same-settings) (number .1))

@@ -9,8 +9,8 @@ use lib.Dec.{eqb}
 use borrow.Author.Tests.{eqb-true, eqb-false}
 use Rattle.grading.specs.Value.{Rows}
 use Rattle.grading.specs.Count.{agreed-vector, held-list}
-use Rattle.record.specs.Frame.{operand-in}
-use Rattle.record.specs.Record.{Rec, no-frames, found-as, with-refused, with-frame, next-round}
+use Rattle.record.specs.Frame.{round-in, operand-in}
+use Rattle.record.specs.Record.{Found, Rec, no-frames, found-as, with-refused, with-frame, next-round}
 use Rattle.record.specs.Refusal.{take-refusal, close-refusal, frame-fault}
 use Rattle.rounds.specs.Exchange.{heard-vector, Table, Closed}
 use Rattle.column.specs.Call.{Call, taking, sending, closing, asking, after-take, After-close, Leads}
@@ -22,14 +22,15 @@ pub record Unchanged (r q : Rec) : Type 0 where
   pub who : q .who ≡ r .who
   pub round : q .round ≡ r .round
   pub frames : q .frames ≡ r .frames
+  pub early : q .early ≡ r .early
   pub found : q .found ≡ r .found
 
 unchanged-self : (r : Rec) → Unchanged r r
-unchanged-self r = record { who = refl; round = refl; frames = refl; found = refl }
+unchanged-self r = record { who = refl; round = refl; frames = refl; early = refl; found = refl }
 
 unchanged-refused : (r : Rec) (k : ℕ) → Unchanged r (with-refused r k)
 unfolding with-refused
-unchanged-refused r k = record { who = refl; round = refl; frames = refl; found = refl }
+unchanged-refused r k = record { who = refl; round = refl; frames = refl; early = refl; found = refl }
 
 -- a round closed
 pub record Closes (r q : Rec) : Type 0 where
@@ -37,68 +38,50 @@ pub record Closes (r q : Rec) : Type 0 where
   pub low : 1 ≤ r .round
   pub high : r .round ≤ 3
   pub round : q .round ≡ suc (r .round)
-  pub frames : q .frames ≡ no-frames (r .who .settings)
+  pub frames : q .frames ≡ r .early
+  pub early : q .early ≡ no-frames (r .who .settings)
   pub one : r .round ≡ 1 → q .found .heard ≡ heard-vector r
   pub two : r .round ≡ 2 → (rows : Rows) × Table r (r .found .heard) rows × (q .found .agreed ≡ agreed-vector (r .who .settings) rows)
   pub three : r .round ≡ 3 → (rows : Rows) × Table r (r .found .agreed) rows × (q .found .held ≡ held-list (r .who .settings) rows)
   pub heard-kept : 2 ≤ r .round → q .found .heard ≡ r .found .heard
   pub agreed-kept : 3 ≤ r .round → q .found .agreed ≡ r .found .agreed
 
+-- one round on, whatever is found: who the column is, and what came in
+closes-by :
+    (r q : Rec) (f : Found) → 1 ≤ r .round → r .round ≤ 3 → q ≡ next-round r f → (r .round ≡ 1 → f .heard ≡ heard-vector r) →
+    (r .round ≡ 2 → (rows : Rows) × Table r (r .found .heard) rows × (f .agreed ≡ agreed-vector (r .who .settings) rows)) →
+    (r .round ≡ 3 → (rows : Rows) × Table r (r .found .agreed) rows × (f .held ≡ held-list (r .who .settings) rows)) →
+    (2 ≤ r .round → f .heard ≡ r .found .heard) → (3 ≤ r .round → f .agreed ≡ r .found .agreed) → Closes r q
+unfolding next-round
+closes-by r q f low high c one two three heard agreed =
+    rw c
+    (record { who = refl; low = low; high = high; round = refl; frames = refl; early = refl; one = one; two = two; three = three; heard-kept = heard; agreed-kept = agreed })
+
 closes-of : (m : ℕ) (r q : Rec) → r .round ≡ m → 1 ≤ m → m ≤ 3 → Closed m r q → Closes r q
-unfolding Closed next-round found-as
+unfolding Closed found-as
 closes-of zero r q e h l c = absurd (omega arith)
 closes-of (suc zero) r q e h l c =
-    record {
-      who = ap (λ (z : Rec). z .who) c;
-      low = omega arith;
-      high = omega arith;
-      round = ap (λ (z : Rec). z .round) c;
-      frames = ap (λ (z : Rec). z .frames) c;
-      one = λ f. ap (λ (z : Rec). z .found .heard) c;
-      two = λ f. absurd (omega arith);
-      three = λ f. absurd (omega arith);
-      heard-kept = λ f. absurd (omega arith);
-      agreed-kept = λ f. absurd (omega arith);
-    }
+    closes-by r q _ (omega arith) (omega arith) c (λ f. refl) (λ f. absurd (omega arith)) (λ f. absurd (omega arith)) (λ f. absurd (omega arith)) (λ f. absurd (omega arith))
 closes-of (suc (suc zero)) r q e h l c =
-    record {
-      who = ap (λ (z : Rec). z .who) (c .2);
-      low = omega arith;
-      high = omega arith;
-      round = ap (λ (z : Rec). z .round) (c .2);
-      frames = ap (λ (z : Rec). z .frames) (c .2);
-      one = λ f. absurd (omega arith);
-      two = λ f. (c .0, c .1, ap (λ (z : Rec). z .found .agreed) (c .2));
-      three = λ f. absurd (omega arith);
-      heard-kept = λ f. ap (λ (z : Rec). z .found .heard) (c .2);
-      agreed-kept = λ f. absurd (omega arith);
-    }
+    closes-by r q _ (omega arith) (omega arith) (c .2) (λ f. absurd (omega arith)) (λ f. (c .0, c .1, refl)) (λ f. absurd (omega arith)) (λ f. refl) (λ f. absurd (omega arith))
 closes-of (suc (suc (suc zero))) r q e h l c =
-    record {
-      who = ap (λ (z : Rec). z .who) (c .2);
-      low = omega arith;
-      high = omega arith;
-      round = ap (λ (z : Rec). z .round) (c .2);
-      frames = ap (λ (z : Rec). z .frames) (c .2);
-      one = λ f. absurd (omega arith);
-      two = λ f. absurd (omega arith);
-      three = λ f. (c .0, c .1, ap (λ (z : Rec). z .found .held) (c .2));
-      heard-kept = λ f. ap (λ (z : Rec). z .found .heard) (c .2);
-      agreed-kept = λ f. ap (λ (z : Rec). z .found .agreed) (c .2);
-    }
+    closes-by r q _ (omega arith) (omega arith) (c .2) (λ f. absurd (omega arith)) (λ f. absurd (omega arith)) (λ f. (c .0, c .1, refl)) (λ f. refl) (λ f. refl)
 closes-of (suc (suc (suc (suc m)))) r q e h l c = absurd (omega arith)
+
+closed-closes : (r q : Rec) → close-refusal r ≡ 0 → Closed (r .round) r q → Closes r q
+closed-closes r q e c = let inside = close-round r e in closes-of (r .round) r q refl (inside .0) (inside .1) c
 
 -- the three ways
 pub data Step (r q : Rec) : Call → Type 0 where
   stays : (c : Call) → Unchanged r q → Step r q c
-  takes : (k : ℕ) (bs : List ℕ) → take-refusal r k bs ≡ 0 → q ≡ with-frame r k (operand-in bs) → Step r q (taking k bs)
+  takes : (k : ℕ) (bs : List ℕ) → take-refusal r k bs ≡ 0 → q ≡ with-frame r (round-in bs) k (operand-in bs) → Step r q (taking k bs)
   closes : Closes r q → Step r q closing
 
 pub after-take-refused : (r : Rec) (k : ℕ) (bs : List ℕ) → (take-refusal r k bs ≡ 0 → ⊥) → Unchanged r (after-take r k bs)
 unfolding after-take
 after-take-refused r k bs h = go (eqb (take-refusal r k bs) 0) (frame-fault (take-refusal r k bs)) refl
   where
-    go : (b d : Bool) → eqb (take-refusal r k bs) 0 ≡ b → Unchanged r (cond b (with-frame r k (operand-in bs)) (cond d (with-refused r k) r))
+    go : (b d : Bool) → eqb (take-refusal r k bs) 0 ≡ b → Unchanged r (cond b (with-frame r (round-in bs) k (operand-in bs)) (cond d (with-refused r k) r))
     go true d e = absurd (h (eqb-true _ _ e))
     go false true e = unchanged-refused r k
     go false false e = unchanged-self r
@@ -114,7 +97,7 @@ step-of (sending n) r q e = stays (sending n) (rw e (unchanged-self r))
 step-of closing r q e = go (close-refusal r) refl e
   where
     go : (n : ℕ) → close-refusal r ≡ n → After-close n r q → Step r q closing
-    go zero f c = let inside = close-round r f in closes (closes-of (r .round) r q refl (inside .0) (inside .1) c)
+    go zero f c = closes (closed-closes r q f c)
     go (suc n) f c = stays closing (rw c (unchanged-self r))
 step-of asking r q e = stays asking (rw e (unchanged-self r))
 
@@ -134,6 +117,9 @@ leads-closing m r q e f c = subst (λ (n : ℕ). After-close n r q) (sym e) (sub
 pub closing-leads : (r q : Rec) → close-refusal r ≡ 0 → Leads closing r q → Closed (r .round) r q
 unfolding Leads After-close
 closing-leads r q e l = subst (λ (n : ℕ). After-close n r q) e l
+
+pub closes-now : (r q : Rec) → close-refusal r ≡ 0 → Leads closing r q → Closes r q
+closes-now r q e l = closed-closes r q e (closing-leads r q e l)
 
 -- a refusal
 pub close-refused : (r : Rec) → (close-refusal r ≡ 0 → ⊥) → Leads closing r r

@@ -6,7 +6,7 @@ use Prim.Native.Nat.{ℕ, zero, suc}
 use lib.Dec.{eqb}
 use lib.ListN.{length, take}
 use Rattle.code.specs.Vector.{has-checks}
-use Rattle.record.specs.Frame.{header-size, frame-size, header, operand-in, checks-in}
+use Rattle.record.specs.Frame.{header-size, frame-size, header, round-in, operand-in, checks-in}
 use Rattle.record.specs.Record.{Who, Found, Rec, with-refused, with-frame}
 use Rattle.record.specs.Refusal.{take-refusal, close-refusal, frame-fault}
 use Rattle.rounds.specs.Exchange.{Closed}
@@ -22,7 +22,7 @@ pub data Call : Type 0 where
 unfoldable pub after-take : Rec → (slot : ℕ) → (bytes : List ℕ) → Rec
 after-take r k bs =
     let n = take-refusal r k bs in
-    cond (eqb n 0) (with-frame r k (operand-in bs)) (cond (frame-fault n) (with-refused r k) r)
+    cond (eqb n 0) (with-frame r (round-in bs) k (operand-in bs)) (cond (frame-fault n) (with-refused r k) r)
 
 -- the record after closing: refused, as before
 unfoldable pub After-close : (refusal : ℕ) → Rec → Rec → Type 0

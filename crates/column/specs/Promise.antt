@@ -2,12 +2,15 @@
 use mathlib.Core.Path.{_≡_}
 use mathlib.Core.List.{List}
 use mathlib.Core.Option.{none, some}
-use Prim.Native.Nat.{ℕ}
+use Prim.Native.Nat.{ℕ, suc, _≤_}
 use lib.ListN.{length, take}
+use Rattle.code.specs.Settings.{Settings}
+use Rattle.code.specs.Size.{most-columns}
+use Rattle.grading.specs.Value.{Value}
 use Rattle.record.specs.Frame.{frame-size, operand-in}
-use Rattle.record.specs.Record.{Rec, taken-at}
+use Rattle.record.specs.Record.{Rec, no-frames, opened, frames-of, frame-at, In-time, counted}
 use Rattle.record.specs.Refusal.{record-refusal, take-refusal}
-use Rattle.column.specs.Call.{after-take, Frame-of}
+use Rattle.column.specs.Call.{Call, after-take, Run, Frame-of}
 use Rattle.record.specs.View.{settings-of, who-in, view}
 use Rattle.record.specs.Stored.{with-slot}
 use Rattle.column.specs.Entry.{Open-says, Take-says, Frame-size-says, Send-says, Close-says, Result-says}
@@ -27,20 +30,43 @@ pub record One-outcome : Type 0 where
   pub asking :
       (c : Column) (a b : ℕ) (vs cs us ks : List ℕ) → Result-says c a vs cs → Result-says c b us ks → (a ≡ b) × (vs ≡ us) × (cs ≡ ks)
 
--- a frame written and read again: another column in that round takes it, and its operand is kept
+-- a frame written and read again: another column in that round, or in the one before, takes it, and its operand is kept
 unfoldable pub Frame-taken : Type 0
 Frame-taken =
     (r z : Rec) (bs : List ℕ) → record-refusal (r .who) ≡ 0 → record-refusal (z .who) ≡ 0 → r .who .settings ≡ z .who .settings →
-    r .who .run ≡ z .who .run → r .round ≡ z .round → Frame-of z bs → (r .who .number ≡ z .who .number → ⊥) →
-    length (r .frames) ≡ r .who .settings .n → taken-at (r .frames) (z .who .number) ≡ none →
-    (take-refusal r (z .who .number) bs ≡ 0) × (taken-at (after-take r (z .who .number) bs .frames) (z .who .number) ≡ some (operand-in bs))
+    r .who .run ≡ z .who .run → In-time (r .round) (z .round) → 1 ≤ r .round → Frame-of z bs → (r .who .number ≡ z .who .number → ⊥) →
+    length (frames-of r (z .round)) ≡ r .who .settings .n → frame-at r (z .round) (z .who .number) ≡ none →
+    (take-refusal r (z .who .number) bs ≡ 0) × (frame-at (after-take r (z .who .number) bs) (z .round) (z .who .number) ≡ some (operand-in bs))
 
--- the same of the calls as built: what `send` wrote in front of a buffer, `take` on another column of that run and round takes, in a slot
--- that holds none, and the slot then holds the frame
+-- a reader awaits a sender's frame: both are columns of one run, the reader is in the sender's round or in the one before, and no frame of
+-- that round of the sender's is there
+pub record Awaits (reader sender : Column) : Type 0 where
+  pub fine : record-refusal (who-in (reader .who)) ≡ 0
+  pub same-settings : settings-of (reader .who) ≡ settings-of (sender .who)
+  pub same-run : reader .who .run ≡ sender .who .run
+  pub two : reader .who .number ≡ sender .who .number → ⊥
+  pub low : 1 ≤ reader .round
+  pub due : In-time (reader .round) (sender .round)
+  pub empty : frame-at (view reader) (sender .round) (sender .who .number) ≡ none
+
+-- the frame that `send` wrote in front of a buffer
+unfoldable pub sent-frame : Column → (buffer : List ℕ) → List ℕ
+sent-frame c buffer = take (frame-size (settings-of (c .who)) (c .round)) buffer
+
+-- the same of the calls as built: what `send` wrote, `take` on a column that awaits it takes, and the frame is there to the byte
 unfoldable pub Sent-taken : Type 0
 Sent-taken =
-    (c d d-now : Column) (buffer buffer-now : List ℕ) (answer : ℕ) → Send-says c buffer 0 buffer-now →
-    record-refusal (who-in (d .who)) ≡ 0 → settings-of (d .who) ≡ settings-of (c .who) → d .who .run ≡ c .who .run → d .round ≡ c .round →
-    (d .who .number ≡ c .who .number → ⊥) → taken-at (view d .frames) (c .who .number) ≡ none →
-    Take-says d (c .who .number) (take (frame-size (settings-of (c .who)) (c .round)) buffer-now) answer d-now →
-    (answer ≡ 0) × (d-now ≡ with-slot d (c .who .number) (take (frame-size (settings-of (c .who)) (c .round)) buffer-now))
+    (c d d-now : Column) (buffer buffer-now : List ℕ) (answer : ℕ) → Send-says c buffer 0 buffer-now → Awaits d c →
+    Take-says d (c .who .number) (sent-frame c buffer-now) answer d-now → (answer ≡ 0) × (d-now ≡ with-slot d (c .who .number) (sent-frame c buffer-now))
+
+-- and where the reader is one round behind: when it closes its round, it is in the sender's, and the operand counts
+unfoldable pub Sent-counts : Type 0
+Sent-counts =
+    (c d d-now e : Column) (buffer buffer-now : List ℕ) (answer closed : ℕ) → Send-says c buffer 0 buffer-now → Awaits d c →
+    c .round ≡ suc (d .round) → length (d .early) ≡ most-columns → Take-says d (c .who .number) (sent-frame c buffer-now) answer d-now →
+    Close-says d-now closed e → (closed ≡ 0) × (e .round ≡ c .round) × (counted (view e) (c .who .number) ≡ some (operand-in (sent-frame c buffer-now)))
+
+-- in round three nothing follows: whatever was called since an opening, from then on no frame is kept early
+unfoldable pub Nothing-follows : Type 0
+Nothing-follows =
+    (s : Settings) (k run : ℕ) (v : Value) (cs : List Call) (r : Rec) → Run (opened s k run v) cs r → 3 ≤ r .round → r .early ≡ no-frames s

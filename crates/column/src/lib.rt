@@ -46,10 +46,15 @@ pub fn take(mut column: Column, slot: u32, frame: &[u8]) -> Outcome
     if answer == 0 {
         let k = (slot - 1) as usize;
         let place = column.slots[k];
-        answer = frames::frame_refusal(who, column.round, slot, place.taken, frame);
+        let early = column.early[k];
+        answer = frames::frame_refusal(who, column.round, slot, place.taken, early.taken, frame);
         if answer == 0 {
             let filled = slots::filled(frame);
-            column.slots[k] = filled;
+            if frames::command_round(frame[0]) == column.round {
+                column.slots[k] = filled;
+            } else {
+                column.early[k] = filled;
+            }
         } else {
             column.refused = record::raised(column.refused);
         }
@@ -95,9 +100,11 @@ pub fn close(mut column: Column) -> Outcome
     let answer = refusals::close_refusal(who, column.round);
     if answer == 0 {
         let found = closing::found_after(column);
+        let early = column.early;
         let empty = slots::no_slots();
         column.found = found;
-        column.slots = empty;
+        column.slots = early;
+        column.early = empty;
         column.round = column.round + 1;
     }
     Outcome { answer, column }

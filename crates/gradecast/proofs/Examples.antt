@@ -5,3 +5,4 @@ pub mod Rough
 pub mod Outcomes
 pub mod Defined
 pub mod Built
+pub mod Early

@@ -1,8 +1,8 @@
--- Frames among good columns. What one sends in a round stands with every other when that one closes the round: it was handed in that
--- round, and can only have been turned down because a frame stood there. And whatever stands there was taken with that run number
--- under that slot, so it is a frame of the sender's, of that round by its command. Assumes nothing.
+-- Frames among good columns. What one sends in a round stands with every other when that one closes the round: it was handed in time, in
+-- that round or in the one before, and can only have been turned down because a frame of that round was there. And whatever stands there
+-- was taken with that run number under that slot, so it is a frame of the sender's, of that round by its command. Assumes nothing.
 use mathlib.Core.Path.{_≡_, refl, sym, _∙_, ap, subst}
-use mathlib.Core.Bool.{Bool, true, false}
+use mathlib.Core.Bool.{Bool, true, false, cond}
 use mathlib.Core.List.{List, [], _∷_}
 use mathlib.Core.Logic.{_⊎_, inl, inr}
 use mathlib.Core.Option.{Option, none, some}
@@ -14,18 +14,22 @@ use borrow.Author.Tests.{eqb-true, eqb-false}
 use Rattle.arrays.proofs.Bool.{true-not-false}
 use Rattle.code.specs.Settings.{Settings, settings-refusal}
 use Rattle.code.proofs.ValidSettings.{sizes}
-use Rattle.record.specs.Frame.{operand-in}
-use Rattle.record.specs.Record.{Rec, opened, taken-at, is-taken, counted}
+use Rattle.grading.specs.Value.{Value}
+use Rattle.record.specs.Frame.{round-in, operand-in}
+use Rattle.record.specs.Record.{Rec, no-frames, opened, taken-at, is-taken, frames-of, frame-at, In-time, counted, with-frame}
 use Rattle.record.specs.Refusal.{line, repeated-refusal, take-refusal}
 use Rattle.column.specs.Call.{Call, taking, closing, after-take, Leads, Passes, later, Operand}
 use Rattle.gradecast.specs.Promise.{Among, Good, numbers, On, Round-frame, Handed, Conditions}
 use Rattle.gradecast.proofs.Goods.{among-unique, by-number, numbers-length}
 use Rattle.grading.specs.Promise.{Numbered}
-use Rattle.record.proofs.Refusal.{Opens, opens-of, Fits, frame-four, taken-of, take-refusal-last}
-use Rattle.column.proofs.Frame.{frame-operand, frame-round, frame-fits-its-round, fits-alike, taken-here, after-take-taken}
-use Rattle.column.proofs.Step.{after-take-refused, step-of}
+use Rattle.record.proofs.Refusal.{Opens, opens-of}
+use Rattle.record.proofs.InTime.{in-time-low}
+use Rattle.record.proofs.FrameRefusal.{Fits, frame-four, taken-of, take-refusal-last}
+use Rattle.record.proofs.There.{nothing-in, frames-many, frame-here, frame-now}
+use Rattle.column.proofs.Frame.{frame-operand, frame-round, frame-fits-its-round, fits-alike, after-take-taken}
+use Rattle.column.proofs.Step.{after-take-refused}
 use Rattle.gradecast.proofs.Proper.{Proper, none-there, proper-open, proper-fine, leads-unique}
-use Rattle.gradecast.proofs.Walk.{kept, kept-step, run-passes, taken-passes, Closing, Came, Stood-or-came, came-of, proper-passes, one-way, to-last}
+use Rattle.gradecast.proofs.Walk.{kept, frame-alike, run-passes, taken-passes, Closing, Came, Stood-or-came, came-of, proper-passes, one-way, to-last}
 
 -- good columns as demand 3 supposes them, with settings that are not turned down, as an opening of one of them shows
 pub record Group (s : Settings) (run : ℕ) (gs : List Good) : Type 0 where
@@ -44,6 +48,12 @@ pub record Got (s : Settings) (run : ℕ) (b : Good) (c : Rec) (m : ℕ) : Type 
   pub in-round : z .round ≡ m
   pub stands : counted c (b .number) ≡ some x
   pub operand : Operand m (z .who) (z .found) x
+
+-- a frame handed in its own round comes in time: so what was promised where every frame is handed in its round follows
+pub handed-in-round :
+    {s : Settings} {run : ℕ} {reader sender : Good} {bytes : List ℕ} (round : ℕ) (h : Handed s run reader sender bytes) → h .at .round ≡ round →
+    (i : Handed s run reader sender bytes) × In-time (i .at .round) round
+handed-in-round round h e = (h, inl (sym e))
 
 taking-first :
     {r z : Rec} {k : ℕ} {bs : List ℕ} {rest left : List Call} → Passes r (taking k bs ∷ rest) z (closing ∷ left) →
@@ -64,19 +74,31 @@ some-taken : (x : List ℕ) → is-taken (some x) ≡ true
 unfolding is-taken
 some-taken x = refl
 
--- after a frame that can be turned down for one reason only its slot is taken
-taken-after : (r : Rec) (k : ℕ) (bs : List ℕ) → 1 ≤ k → k ≤ length (r .frames) → take-refusal r k bs ≡ repeated-refusal (is-taken (taken-at (r .frames) k)) →
-    is-taken (taken-at (after-take r k bs .frames) k) ≡ true
-unfolding repeated-refusal line
-taken-after r k bs low high e = go (is-taken (taken-at (r .frames) k)) refl
+-- an opened record has no frame
+none-opened : (s : Settings) (k run : ℕ) (v : Value) (m j : ℕ) (x : List ℕ) → frame-at (opened s k run v) m j ≡ some x → ⊥
+unfolding frame-at frames-of opened
+none-opened s k run v m j x e = go (eqb m 1) (eqb m 2) e
   where
-    go : (t : Bool) → is-taken (taken-at (r .frames) k) ≡ t → is-taken (taken-at (after-take r k bs .frames) k) ≡ true
+    go : (a b : Bool) → taken-at (cond a (no-frames s) (cond b (no-frames s) [])) j ≡ some x → ⊥
+    go true b e = none-there s _ j x refl e
+    go false true e = none-there s _ j x refl e
+    go false false e = let z : _≡_ {A = ℕ} 0 1 = cc (nothing-in j) in omega arith
+
+-- after a frame that can be turned down for one reason only, a frame of its round is there
+taken-after :
+    (r : Rec) (p k : ℕ) (bs : List ℕ) → In-time (r .round) p → round-in bs ≡ p → 1 ≤ k → k ≤ length (frames-of r p) →
+    take-refusal r k bs ≡ repeated-refusal (is-taken (frame-at r p k)) → is-taken (frame-at (after-take r k bs) p k) ≡ true
+unfolding repeated-refusal line
+taken-after r p k bs due its low high e = go (is-taken (frame-at r p k)) refl
+  where
+    go : (t : Bool) → is-taken (frame-at r p k) ≡ t → is-taken (frame-at (after-take r k bs) p k) ≡ true
     go true f =
         let fifteen : take-refusal r k bs ≡ 15 = rw f at e in
-        ap (λ (fs : List (Option (List ℕ))). is-taken (taken-at fs k)) (after-take-refused r k bs (λ z. absurd (omega arith)) .frames) ∙ f
+        let u = after-take-refused r k bs (λ z. absurd (omega arith)) in
+        ap is-taken (frame-alike r (after-take r k bs) p k (u .round) (u .frames) (u .early)) ∙ f
     go false f =
-        ap (λ (q : Rec). is-taken (taken-at (q .frames) k)) (after-take-taken r k bs (rw f at e))
-        ∙ ap is-taken (taken-here r k (operand-in bs) low high) ∙ some-taken (operand-in bs)
+        ap (λ (q : Rec). is-taken (frame-at q p k)) (after-take-taken r k bs (rw f at e) ∙ ap (λ (m : ℕ). with-frame r m k (operand-in bs)) its)
+        ∙ ap is-taken (frame-here r p k (operand-in bs) due low high) ∙ some-taken (operand-in bs)
 
 module _ {s : Settings} {run : ℕ} {gs : List Good} (group : Group s run gs) where
   pub opens : (a : Good) → Among a gs → Opens s (a .number) (a .own)
@@ -108,22 +130,21 @@ module _ {s : Settings} {run : ℕ} {gs : List Good} (group : Group s run gs) wh
   pub last-on : (a : Good) → Among a gs → On s run a (a .last) []
   last-on a i = run-passes (group .conditions .ran a i .leads)
 
-  -- every frame in a record was taken in that round
+  -- every frame that counts in a record was taken
   came : {z : Rec} {rest : List Call} (a : Good) → Among a gs → On s run a z rest → (k : ℕ) (x : List ℕ) → taken-at (z .frames) k ≡ some x →
       Came (opened s (a .number) run (a .own)) (a .calls) k (z .round) x
-  unfolding opened
-  came {z} a i p k x e = go (came-of k x p e)
+  came {z} a i p k x e = go (came-of k (z .round) x p (omega arith) (frame-now z k ∙ e))
     where
       go : Stood-or-came (opened s (a .number) run (a .own)) (a .calls) k (z .round) x → Came (opened s (a .number) run (a .own)) (a .calls) k (z .round) x
-      go (inl y) = none-there s _ k x refl (y .0)
+      go (inl y) = absurd (none-opened s (a .number) run (a .own) (z .round) k x y)
       go (inr y) = y
 
   module _ (a b : Good) (i : Among a gs) (j : Among b gs) (d : a .number ≡ b .number → ⊥) (m : ℕ) {z : Rec} {rest : List Call}
       (x : Closing (opened s (a .number) run (a .own)) z (a .calls) rest m) where
-    -- a frame handed in a round stands there when the round is closed
-    handed-stands : (bs : List ℕ) → Round-frame s run b m bs → Handed s run a b m bs → is-taken (taken-at (x .before .frames) (b .number)) ≡ true
+    -- a frame handed in time stands there when its round is closed
+    handed-stands : (bs : List ℕ) → Round-frame s run b m bs → (h : Handed s run a b bs) → In-time (h .at .round) m → is-taken (taken-at (x .before .frames) (b .number)) ≡ true
     unfolding Leads
-    handed-stands bs f h =
+    handed-stands bs f h due =
         go (one-way s (a .number) run (a .own) (opens a i) (proper-open s (a .number) run (a .own) (opens a i)) (h .on) (x .to))
       where
         r : Rec
@@ -132,33 +153,31 @@ module _ {s : Settings} {run : ℕ} {gs : List Good} (group : Group s run gs) wh
         pr : Proper s (a .number) run (a .own) r
         pr = proper a i (h .on)
 
-        inside : (1 ≤ f .at .round) × (f .at .round ≤ 3)
-        inside = frame-round (f .at) bs (f .frame)
+        inside : (1 ≤ m) × (m ≤ 3)
+        inside = let q = frame-round (f .at) bs (f .frame) in (omega (arith, f .in-round), omega (arith, f .in-round))
 
-        same-round : f .at .round ≡ r .round
-        same-round = f .in-round ∙ sym (h .in-round)
-
-        fits : Fits (r .who .settings) (r .who .run) (r .round) (b .number) bs
+        fits : Fits (r .who .settings) (r .who .run) m (b .number) bs
         fits =
             let q = proper b j (f .on) in
-            fits-alike (q .settings ∙ sym (pr .settings)) (q .runs ∙ sym (pr .runs)) same-round (q .number) (frame-fits-its-round (f .at) bs (f .frame))
+            fits-alike (q .settings ∙ sym (pr .settings)) (q .runs ∙ sym (pr .runs)) (f .in-round) (q .number) (frame-fits-its-round (f .at) bs (f .frame))
 
-        known : take-refusal r (b .number) bs ≡ repeated-refusal (is-taken (taken-at (r .frames) (b .number)))
+        known : take-refusal r (b .number) bs ≡ repeated-refusal (is-taken (frame-at r m (b .number)))
         known =
-            take-refusal-last r (b .number) bs (proper-fine s (a .number) run (a .own) (opens a i) r pr) (omega (arith, inside .0, same-round))
-            (omega (arith, inside .1, same-round)) (opens b j .low) (rw (pr .settings) (opens b j .high)) (λ e. d (sym (pr .number) ∙ sym e)) fits
+            take-refusal-last r m (b .number) bs (proper-fine s (a .number) run (a .own) (opens a i) r pr) (pr .low)
+            (omega (arith, inside .1, in-time-low due)) (opens b j .low) (rw (pr .settings) (opens b j .high)) (λ e. d (sym (pr .number) ∙ sym e)) (inside .0) due fits
 
         go : Passes r (taking (b .number) bs ∷ h .rest) (x .before) (closing ∷ x .left)
             ⊎ Passes (x .before) (closing ∷ x .left) r (taking (b .number) bs ∷ h .rest) → is-taken (taken-at (x .before .frames) (b .number)) ≡ true
         go (inl u) =
             let t = taking-first u in
-            let step = kept-step r (t .0) (taking (b .number) bs) (step-of (taking (b .number) bs) r (t .0) (t .1)) in
-            taken-passes (b .number) (t .2) (omega (arith, step .up, kept (t .2) .up, h .in-round, x .in-round))
-            (rw (t .1) (taken-after r (b .number) bs (opens b j .low) (rw (pr .slots) (opens b j .high)) known))
+            let there =
+            taken-passes m (b .number) (t .2) (omega (arith, x .in-round))
+            (rw (t .1) (taken-after r m (b .number) bs due (fits .round) (opens b j .low) (rw (frames-many r m due (pr .slots) (pr .early-slots)) (opens b j .high)) known)) in
+            ap is-taken (sym (frame-now (x .before) (b .number)) ∙ ap (λ (q : ℕ). frame-at (x .before) q (b .number)) (x .in-round)) ∙ there
         go (inr u) =
             let t = closing-first u in
             let same = leads-unique s (a .number) run (a .own) (opens a i) closing (x .before) (t .0) (x .after) (proper a i (x .to)) (t .1) (x .leads) in
-            absurd (omega (arith, kept (t .2) .up, h .in-round, x .in-round, x .way .round, ap (λ (q : Rec). q .round) same))
+            absurd (omega (arith, kept (t .2) .up, in-time-low due, x .in-round, x .way .round, ap (λ (q : Rec). q .round) same))
 
     -- whatever stands there then is a frame of the sender's, of that round
     stands-got : (y : List ℕ) → taken-at (x .before .frames) (b .number) ≡ some y → Got s run b (x .before) m
@@ -179,22 +198,22 @@ module _ {s : Settings} {run : ℕ} {gs : List Good} (group : Group s run gs) wh
         way : Came (opened s (a .number) run (a .own)) (a .calls) (b .number) (x .before .round) y
         way = came a i (x .to) (b .number) y e
 
-        fits : Fits (way .at .who .settings) (way .at .who .run) (way .at .round) (b .number) (way .bytes)
+        fits : Fits (way .at .who .settings) (way .at .who .run) (round-in (way .bytes)) (b .number) (way .bytes)
         fits = taken-of (way .at) (b .number) (way .bytes) (way .not-refused) .fits
 
         sent : (m : ℕ) × Round-frame s run b m (way .bytes)
         sent =
-            group .conditions .fair a b i j d .only _ (way .bytes) (record { at = way .at; rest = way .left; on = way .to; in-round = refl })
-            (omega (arith, fits .size, frame-four (way .at .who .settings) (way .at .round))) (fits .same-run ∙ proper a i (way .to) .runs)
+            group .conditions .fair a b i j d .only (way .bytes) (record { at = way .at; rest = way .left; on = way .to })
+            (omega (arith, fits .size, frame-four (way .at .who .settings) (round-in (way .bytes)))) (fits .same-run ∙ proper a i (way .to) .runs)
 
         frame : Round-frame s run b (sent .0) (way .bytes)
         frame = sent .1
 
         its-round : frame .at .round ≡ m
-        its-round = sym (frame-fits-its-round (frame .at) (way .bytes) (frame .frame) .round) ∙ fits .round ∙ way .in-round ∙ x .in-round
+        its-round = sym (frame-fits-its-round (frame .at) (way .bytes) (frame .frame) .round) ∙ way .of-round ∙ x .in-round
 
     pub got : 1 ≤ m → m ≤ 3 → Got s run b (x .before) m
     got low high =
         let sent = group .conditions .fair a b i j d .sends m low high in
-        let there = taken-some _ (handed-stands (sent .0) (sent .1) (sent .2)) in
+        let there = taken-some _ (handed-stands (sent .0) (sent .1) (sent .2 .0) (sent .2 .1)) in
         stands-got (there .0) (there .1)

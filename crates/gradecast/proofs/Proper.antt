@@ -2,7 +2,7 @@
 -- and operands, V and Y have the sizes they should have. It holds of an opened record, and each step keeps it. Of such a record every
 -- call leaves just one behind, since a table has one content. Assumes nothing.
 use mathlib.Core.Path.{_≡_, refl, sym, _∙_, ap, subst}
-use mathlib.Core.Bool.{Bool, true, false, cond}
+use mathlib.Core.Bool.{Bool, true, false, cond, not}
 use mathlib.Core.List.{List, []}
 use mathlib.Core.Logic.{_⊎_, inl, inr}
 use mathlib.Core.Option.{Option, none, some}
@@ -11,18 +11,22 @@ use native.Mathlib.Nat.{eq-or-lt-of-le}
 use native.Mathlib.Omega.{arith}
 use lib.Dec.{eqb}
 use lib.ListN.{length, length-set, length-replicate}
+use borrow.Author.Tests.{eqb-true, not-true}
 use Rattle.code.specs.Settings.{Settings, value-size}
 use Rattle.grading.specs.Value.{Value, Rows}
 use Rattle.grading.specs.Count.{agreed-at, agreed-vector}
 use Rattle.grading.proofs.Value.{blank-size, entries-length, entries-at}
-use Rattle.record.specs.Frame.{operand-size, operand-in}
-use Rattle.record.specs.Record.{Who, Rec, who-as, no-frames, opened, taken-at, counted, with-frame}
+use Rattle.record.specs.Frame.{operand-size, round-in, operand-in}
+use Rattle.record.specs.Record.{Who, Rec, who-as, no-frames, opened, taken-at, counted, In-time, with-operand, with-frame}
 use Rattle.record.specs.Refusal.{record-refusal, close-refusal}
 use Rattle.rounds.specs.Exchange.{value-or-blank, heard-at, heard-vector, Table}
 use Rattle.column.specs.Call.{Call, taking, sending, closing, asking, After-close, Leads}
 use Rattle.grading.proofs.Grade.{agreed-is}
-use Rattle.record.proofs.Refusal.{Opens, record-fine, taken-of}
-use Rattle.column.proofs.Frame.{operand-length, none-taken, taken-cases}
+use Rattle.record.proofs.Refusal.{Opens, record-fine}
+use Rattle.record.proofs.InTime.{in-time-next}
+use Rattle.record.proofs.FrameRefusal.{taken-of}
+use Rattle.record.proofs.There.{none-taken, each-with}
+use Rattle.column.proofs.Frame.{operand-length}
 use Rattle.rounds.proofs.Rows.{Sized, table-sized, closed-unique}
 use Rattle.column.proofs.Step.{Unchanged, Closes, Step, stays, takes, closes}
 
@@ -34,7 +38,9 @@ pub record Proper (s : Settings) (k run : ℕ) (v : Value) (r : Rec) : Type 0 wh
   pub low : 1 ≤ r .round
   pub high : r .round ≤ 4
   pub slots : length (r .frames) ≡ s .n
+  pub early-slots : length (r .early) ≡ s .n
   pub operands : (j : ℕ) (x : List ℕ) → taken-at (r .frames) j ≡ some x → length x ≡ operand-size s (r .round)
+  pub early-operands : (j : ℕ) (x : List ℕ) → taken-at (r .early) j ≡ some x → length x ≡ operand-size s (suc (r .round))
   pub heard : 2 ≤ r .round → Sized s (r .found .heard)
   pub agreed : 3 ≤ r .round → Sized s (r .found .agreed)
 
@@ -94,7 +100,9 @@ module _ (s : Settings) (k run : ℕ) (v : Value) (o : Opens s k v) where
         low = omega arith;
         high = omega arith;
         slots = no-frames-length s;
+        early-slots = no-frames-length s;
         operands = λ j x e. none-there s _ j x refl e;
+        early-operands = λ j x e. none-there s _ j x refl e;
         heard = λ h. absurd (omega arith);
         agreed = λ h. absurd (omega arith);
       }
@@ -112,15 +120,23 @@ module _ (s : Settings) (k run : ℕ) (v : Value) (o : Opens s k v) where
         low = omega (arith, u .round, p .low);
         high = omega (arith, u .round, p .high);
         slots = ap length (u .frames) ∙ p .slots;
+        early-slots = ap length (u .early) ∙ p .early-slots;
         operands =
             λ j x e. p .operands j x (sym (ap (λ (fs : List (Option (List ℕ))). taken-at fs j) (u .frames)) ∙ e) ∙ ap (operand-size s) (sym (u .round));
+        early-operands =
+            λ j x e. p .early-operands j x (sym (ap (λ (fs : List (Option (List ℕ))). taken-at fs j) (u .early)) ∙ e) ∙ ap (λ (m : ℕ). operand-size s (suc m)) (sym (u .round));
         heard = λ h. rw (u .found) (p .heard (omega (arith, u .round)));
         agreed = λ h. rw (u .found) (p .agreed (omega (arith, u .round)));
       }
 
-  proper-takes : (r : Rec) (j : ℕ) (y : List ℕ) → Proper s k run v r → 1 ≤ j → length y ≡ operand-size s (r .round) → Proper s k run v (with-frame r j y)
+  slots-with-length : (b : Bool) (fs : List (Option (List ℕ))) (j : ℕ) (y : List ℕ) → length (with-operand b fs j y) ≡ length fs
+  unfolding with-operand
+  slots-with-length true fs j y = length-set fs (j - 1) (some y)
+  slots-with-length false fs j y = refl
+
+  proper-takes : (r : Rec) (q j : ℕ) (y : List ℕ) → Proper s k run v r → 1 ≤ j → In-time (r .round) q → length y ≡ operand-size s q → Proper s k run v (with-frame r q j y)
   unfolding with-frame
-  proper-takes r j y p low e =
+  proper-takes r q j y p low due e =
       record {
         settings = p .settings;
         number = p .number;
@@ -128,15 +144,14 @@ module _ (s : Settings) (k run : ℕ) (v : Value) (o : Opens s k v) where
         own = p .own;
         low = p .low;
         high = p .high;
-        slots = length-set (r .frames) (j - 1) (some y) ∙ p .slots;
-        operands = λ i x f. go x i (taken-cases r i j x y low f);
+        slots = slots-with-length (eqb q (r .round)) (r .frames) j y ∙ p .slots;
+        early-slots = slots-with-length (not (eqb q (r .round))) (r .early) j y ∙ p .early-slots;
+        operands = each-with (λ x. length x ≡ operand-size s (r .round)) (eqb q (r .round)) (r .frames) j y low (λ f. e ∙ ap (operand-size s) (eqb-true _ _ f)) (p .operands);
+        early-operands =
+            each-with (λ x. length x ≡ operand-size s (suc (r .round))) (not (eqb q (r .round))) (r .early) j y low (λ f. e ∙ ap (operand-size s) (in-time-next due (not-true _ f))) (p .early-operands);
         heard = p .heard;
         agreed = p .agreed;
       }
-    where
-      go : (x : List ℕ) (i : ℕ) → ((i ≡ j) × (x ≡ y)) ⊎ (taken-at (r .frames) i ≡ some x) → length x ≡ operand-size s (r .round)
-      go x i (inl f) = ap length (f .1) ∙ e
-      go x i (inr f) = p .operands i x f
 
   own-size : (r : Rec) → Proper s k run v r → length (r .who .own) ≡ value-size (r .who .settings)
   unfolding value-size
@@ -151,8 +166,11 @@ module _ (s : Settings) (k run : ℕ) (v : Value) (o : Opens s k v) where
         own = ap (λ (w : Who). w .own) (x .who) ∙ p .own;
         low = omega (arith, x .round);
         high = omega (arith, x .round, x .high);
-        slots = ap length (x .frames) ∙ no-frames-length (r .who .settings) ∙ ap (λ (u : Settings). u .n) (p .settings);
-        operands = λ j y e. none-there (r .who .settings) (q .frames) j y (x .frames) e;
+        slots = ap length (x .frames) ∙ p .early-slots;
+        early-slots = ap length (x .early) ∙ no-frames-length (r .who .settings) ∙ ap (λ (u : Settings). u .n) (p .settings);
+        operands =
+            λ j y e. p .early-operands j y (sym (ap (λ (fs : List (Option (List ℕ))). taken-at fs j) (x .frames)) ∙ e) ∙ ap (operand-size s) (sym (x .round));
+        early-operands = λ j y e. none-there (r .who .settings) (q .early) j y (x .early) e;
         heard = λ h. heard (eq-or-lt-of-le (x .low));
         agreed = λ h. agreed (eq-or-lt-of-le (let two : 2 ≤ r .round = omega (arith, x .round) in two));
       }
@@ -178,7 +196,8 @@ module _ (s : Settings) (k run : ℕ) (v : Value) (o : Opens s k v) where
   proper-step c r q p (takes j bs e g) =
       let t = taken-of r j bs e in
       subst (Proper s k run v) (sym g)
-      (proper-takes r j (operand-in bs) p (t .low) (operand-length (r .who .settings) (r .round) bs (t .fits .size) ∙ ap (λ (u : Settings). operand-size u (r .round)) (p .settings)))
+      (proper-takes r (round-in bs) j (operand-in bs) p (t .low) (t .due)
+      (operand-length (r .who .settings) (round-in bs) bs (t .fits .size) ∙ ap (λ (u : Settings). operand-size u (round-in bs)) (p .settings)))
   proper-step c r q p (closes x) = proper-closes r q p x
 
   -- one record after each call

@@ -2,23 +2,26 @@
 -- A round that is past was closed somewhere, and a frame that stands in a slot was taken there in this round. Two records of one list
 -- lie on one way, since every call leaves one record behind. Each by induction on the list. Assumes nothing.
 use mathlib.Core.Path.{_≡_, refl, sym, _∙_, ap, subst}
-use mathlib.Core.Bool.{true}
+use mathlib.Core.Bool.{Bool, true, false}
 use mathlib.Core.List.{List, [], _∷_}
 use mathlib.Core.Logic.{_⊎_, inl, inr}
-use mathlib.Core.Option.{Option, some}
-use Prim.Native.Nat.{ℕ, _<_, _≤_}
+use mathlib.Core.Option.{some}
+use Prim.Native.Nat.{ℕ, suc, _<_, _≤_}
 use native.Mathlib.Nat.{eq-or-lt-of-le}
 use native.Mathlib.Omega.{arith}
+use lib.Dec.{eqb}
+use borrow.Author.Tests.{eqb-true, ne-eqb}
 use Rattle.code.specs.Settings.{Settings}
 use Rattle.grading.specs.Value.{Value}
-use Rattle.record.specs.Frame.{operand-in}
-use Rattle.record.specs.Record.{Found, Rec, taken-at, is-taken, with-frame}
+use Rattle.record.specs.Frame.{round-in, operand-in}
+use Rattle.record.specs.Record.{Found, Rec, is-taken, frames-of, frame-at, with-frame}
 use Rattle.record.specs.Refusal.{take-refusal}
 use Rattle.column.specs.Call.{Call, taking, closing, Leads, Run, no-call, one-call, Passes, here, later}
-use Rattle.record.proofs.Refusal.{Opens, taken-of}
-use Rattle.column.proofs.Frame.{taken-cases, taken-stays}
+use Rattle.record.proofs.Refusal.{Opens}
+use Rattle.record.proofs.FrameRefusal.{taken-of}
+use Rattle.record.proofs.There.{nothing-in, none-taken, frame-cases, frame-stays}
 use Rattle.column.proofs.Step.{Closes, Step, stays, takes, closes, step-of}
-use Rattle.gradecast.proofs.Proper.{Proper, none-there, proper-step, leads-unique}
+use Rattle.gradecast.proofs.Proper.{Proper, proper-step, leads-unique}
 
 -- what stays
 pub record Kept (r q : Rec) : Type 0 where
@@ -39,13 +42,13 @@ kept-join r q z a b =
       held = λ h. b .held (omega (arith, a .up)) ∙ a .held h;
     }
 
-kept-frame : (r : Rec) (k : ℕ) (x : List ℕ) → Kept r (with-frame r k x)
+kept-frame : (r : Rec) (p k : ℕ) (x : List ℕ) → Kept r (with-frame r p k x)
 unfolding with-frame
-kept-frame r k x = record { up = omega arith; heard = λ h. refl; agreed = λ h. refl; held = λ h. refl }
+kept-frame r p k x = record { up = omega arith; heard = λ h. refl; agreed = λ h. refl; held = λ h. refl }
 
 pub kept-step : (r q : Rec) (c : Call) → Step r q c → Kept r q
 kept-step r q c (stays d u) = record { up = omega (arith, u .round); heard = λ h. ap (λ (f : Found). f .heard) (u .found); agreed = λ h. ap (λ (f : Found). f .agreed) (u .found); held = λ h. ap (λ (f : Found). f .held) (u .found) }
-kept-step r q c (takes j bs e g) = subst (Kept r) (sym g) (kept-frame r j (operand-in bs))
+kept-step r q c (takes j bs e g) = subst (Kept r) (sym g) (kept-frame r (round-in bs) j (operand-in bs))
 kept-step r q c (closes x) = record { up = omega (arith, x .round); heard = x .heard-kept; agreed = x .agreed-kept; held = λ h. absurd (omega (arith, x .high)) }
 
 pub kept : {r z : Rec} {cs rest : List Call} → Passes r cs z rest → Kept r z
@@ -56,22 +59,35 @@ pub run-passes : {r z : Rec} {cs : List Call} → Run r cs z → Passes r cs z [
 run-passes (no-call r) = here r []
 run-passes (one-call r q z c cs l p) = later r q z c cs [] l (run-passes p)
 
--- a frame taken stays to the end of its round
+-- a call that does not close keeps what is there, and a closing what is there of later rounds
+pub frame-alike : (r q : Rec) (m k : ℕ) → q .round ≡ r .round → q .frames ≡ r .frames → q .early ≡ r .early → frame-at q m k ≡ frame-at r m k
+unfolding frame-at frames-of
+frame-alike r q m k e f g = rw (e, f, g) refl
+
+pub frame-closed : (r q : Rec) (m k : ℕ) → Closes r q → q .round ≤ m → frame-at q m k ≡ frame-at r m k
+unfolding frame-at frames-of
+frame-closed r q m k x h = go (eqb m (suc (r .round))) (eqb m (suc (suc (r .round)))) refl refl
+  where
+    go : (a b : Bool) → eqb m (suc (r .round)) ≡ a → eqb m (suc (suc (r .round))) ≡ b → frame-at q m k ≡ frame-at r m k
+    go true b f g =
+        rw (x .round, x .frames, f, ne-eqb m (r .round) (λ e. absurd (omega (arith, eqb-true m (suc (r .round)) f)))) refl
+    go false true f g =
+        rw (x .round, x .early, f, g, ne-eqb m (r .round) (λ e. absurd (omega (arith, eqb-true m (suc (suc (r .round))) g)))) (none-taken (r .who .settings) k ∙ sym (nothing-in k))
+    go false false f g =
+        rw (x .round, f, g, ne-eqb m (r .round) (λ e. absurd (omega (arith, x .round)))) refl
+
+-- a frame that is there stays to the end of its round
 taken-step :
-    (r q : Rec) (c : Call) (k : ℕ) → Step r q c → q .round ≡ r .round → is-taken (taken-at (r .frames) k) ≡ true →
-    is-taken (taken-at (q .frames) k) ≡ true
-taken-step r q c k (stays d u) e h = rw (u .frames) h
-taken-step r q c k (takes j bs f g) e h = rw g (taken-stays r k j (operand-in bs) h)
-taken-step r q c k (closes x) e h = absurd (omega (arith, x .round))
+    (r q : Rec) (c : Call) (m k : ℕ) → Step r q c → q .round ≤ m → is-taken (frame-at r m k) ≡ true → is-taken (frame-at q m k) ≡ true
+taken-step r q c m k (stays d u) e h = rw (frame-alike r q m k (u .round) (u .frames) (u .early)) h
+taken-step r q c m k (takes j bs f g) e h = rw g (frame-stays r (round-in bs) m k j (operand-in bs) h)
+taken-step r q c m k (closes x) e h = rw (frame-closed r q m k x e) h
 
 pub taken-passes :
-    {r z : Rec} {cs rest : List Call} (k : ℕ) → Passes r cs z rest → z .round ≡ r .round → is-taken (taken-at (r .frames) k) ≡ true →
-    is-taken (taken-at (z .frames) k) ≡ true
-taken-passes k (here r cs) e h = h
-taken-passes k (later r q z c cs rest l p) e h =
-    let step = step-of c r q l in
-    let same-round : q .round ≡ r .round = omega (arith, kept-step r q c step .up, kept p .up) in
-    taken-passes k p (omega arith) (taken-step r q c k step same-round h)
+    {r z : Rec} {cs rest : List Call} (m k : ℕ) → Passes r cs z rest → z .round ≤ m → is-taken (frame-at r m k) ≡ true → is-taken (frame-at z m k) ≡ true
+taken-passes m k (here r cs) e h = h
+taken-passes m k (later r q z c cs rest l p) e h =
+    let step = step-of c r q l in taken-passes m k p e (taken-step r q c m k step (omega (arith, kept p .up)) h)
 
 -- where a round that is past was closed
 pub record Closing (r z : Rec) (cs rest : List Call) (m : ℕ) : Type 0 where
@@ -113,13 +129,13 @@ pub closing-of : {r z : Rec} {cs rest : List Call} (m : ℕ) → Passes r cs z r
 closing-of m (here r cs) a b = absurd (omega arith)
 closing-of m (later r q z c cs rest l p) a b = closing-step r q z c cs rest m l (step-of c r q l) p a (λ h. closing-of m p h b)
 
--- where a frame that stands in a slot was taken
+-- where a frame of round m that is there was taken
 pub record Came (r : Rec) (cs : List Call) (k m : ℕ) (x : List ℕ) : Type 0 where
   pub at : Rec
   pub bytes : List ℕ
   pub left : List Call
   pub to : Passes r cs at (taking k bytes ∷ left)
-  pub in-round : at .round ≡ m
+  pub of-round : round-in bytes ≡ m
   pub not-refused : take-refusal at k bytes ≡ 0
   pub operand : x ≡ operand-in bytes
 
@@ -130,40 +146,37 @@ came-later r q c cs k m x l y =
       bytes = y .bytes;
       left = y .left;
       to = later r q (y .at) c cs (taking k (y .bytes) ∷ y .left) l (y .to);
-      in-round = y .in-round;
+      of-round = y .of-round;
       not-refused = y .not-refused;
       operand = y .operand;
     }
 
--- a frame in the slot already, in the same round, or taken on the way
+-- a frame that was there already, or was taken on the way
 abbrev pub Stood-or-came : (r : Rec) (cs : List Call) (k m : ℕ) (x : List ℕ) → Type 0
-Stood-or-came r cs k m x = ((taken-at (r .frames) k ≡ some x) × (r .round ≡ m)) ⊎ Came r cs k m x
+Stood-or-came r cs k m x = (frame-at r m k ≡ some x) ⊎ Came r cs k m x
 
-came-step : (r q : Rec) (c : Call) (cs : List Call) (k : ℕ) (x : List ℕ) → Step r q c → taken-at (q .frames) k ≡ some x → Stood-or-came r (c ∷ cs) k (q .round) x
-unfolding with-frame
-came-step r q c cs k x (stays d u) e = inl (sym (ap (λ (fs : List (Option (List ℕ))). taken-at fs k) (u .frames)) ∙ e, sym (u .round))
-came-step r q c cs k x (closes y) e = none-there (r .who .settings) (q .frames) k x (y .frames) e
-came-step r q c cs k x (takes j bs f g) e =
-    go (taken-cases r k j x (operand-in bs) (taken-of r j bs f .low) (sym (ap (λ (y : Rec). taken-at (y .frames) k) g) ∙ e))
+came-step :
+    (r q : Rec) (c : Call) (cs : List Call) (k m : ℕ) (x : List ℕ) → Step r q c → q .round ≤ m → frame-at q m k ≡ some x → Stood-or-came r (c ∷ cs) k m x
+came-step r q c cs k m x (stays d u) h e = inl (sym (frame-alike r q m k (u .round) (u .frames) (u .early)) ∙ e)
+came-step r q c cs k m x (closes y) h e = inl (sym (frame-closed r q m k y h) ∙ e)
+came-step r q c cs k m x (takes j bs f g) h e =
+    go (frame-cases r (round-in bs) m k j x (operand-in bs) (taken-of r j bs f .due) (taken-of r j bs f .low) (sym (ap (λ (y : Rec). frame-at y m k) g) ∙ e))
   where
-    same-round : r .round ≡ q .round
-    same-round = sym (ap (λ (y : Rec). y .round) g)
-
-    go : ((k ≡ j) × (x ≡ operand-in bs)) ⊎ (taken-at (r .frames) k ≡ some x) → Stood-or-came r (taking j bs ∷ cs) k (q .round) x
-    go (inl h) =
+    go : ((m ≡ round-in bs) × (k ≡ j) × (x ≡ operand-in bs)) ⊎ (frame-at r m k ≡ some x) → Stood-or-came r (taking j bs ∷ cs) k m x
+    go (inl t) =
         inr
-        (rw (h .0)
-        (record { at = r; bytes = bs; left = cs; to = here r (taking j bs ∷ cs); in-round = same-round; not-refused = f; operand = h .1 }))
-    go (inr h) = inl (h, same-round)
+        (rw (t .1)
+        (record { at = r; bytes = bs; left = cs; to = here r (taking j bs ∷ cs); of-round = sym (t .0); not-refused = f; operand = t .2 }))
+    go (inr t) = inl t
 
 pub came-of :
-    {r z : Rec} {cs rest : List Call} (k : ℕ) (x : List ℕ) → Passes r cs z rest → taken-at (z .frames) k ≡ some x → Stood-or-came r cs k (z .round) x
-came-of k x (here r cs) e = inl (e, refl)
-came-of k x (later r q z c cs rest l p) e = go (came-of k x p e)
+    {r z : Rec} {cs rest : List Call} (k m : ℕ) (x : List ℕ) → Passes r cs z rest → z .round ≤ m → frame-at z m k ≡ some x → Stood-or-came r cs k m x
+came-of k m x (here r cs) h e = inl e
+came-of k m x (later r q z c cs rest l p) h e = go (came-of k m x p h e)
   where
-    go : Stood-or-came q cs k (z .round) x → Stood-or-came r (c ∷ cs) k (z .round) x
-    go (inr y) = inr (came-later r q c cs k (z .round) x l y)
-    go (inl y) = subst (λ (m : ℕ). Stood-or-came r (c ∷ cs) k m x) (y .1) (came-step r q c cs k x (step-of c r q l) (y .0))
+    go : Stood-or-came q cs k m x → Stood-or-came r (c ∷ cs) k m x
+    go (inr y) = inr (came-later r q c cs k m x l y)
+    go (inl y) = came-step r q c cs k m x (step-of c r q l) (omega (arith, kept p .up)) y
 
 -- every record of the list is proper, and two of them lie on one way
 module _ (s : Settings) (k run : ℕ) (v : Value) (o : Opens s k v) where

@@ -9,7 +9,7 @@ use Rattle.grading.specs.Value.{Value}
 use Rattle.grading.specs.Held.{Held, held-as}
 use Rattle.grading.specs.Promise.{all-different, apart}
 use Rattle.record.specs.Frame.{header-size, run-in}
-use Rattle.record.specs.Record.{Rec, opened}
+use Rattle.record.specs.Record.{Rec, opened, In-time}
 use Rattle.record.specs.Refusal.{open-refusal}
 use Rattle.column.specs.Call.{Call, taking, Run, Passes, Frame-of}
 
@@ -46,20 +46,20 @@ pub record Round-frame (s : Settings) (run : ℕ) (sender : Good) (round : ℕ) 
   pub in-round : at .round ≡ round
   pub frame : Frame-of at bytes
 
--- handed: the bytes stand in a taking call of the reader's list, made while it is in a round, with the sender's number as slot
-pub record Handed (s : Settings) (run : ℕ) (reader sender : Good) (round : ℕ) (bytes : List ℕ) : Type 0 where
+-- handed: the bytes stand in a taking call of the reader's list, with the sender's number as slot
+pub record Handed (s : Settings) (run : ℕ) (reader sender : Good) (bytes : List ℕ) : Type 0 where
   pub at : Rec
   pub rest : List Call
   pub on : On s run reader at (taking (sender .number) bytes ∷ rest)
-  pub in-round : at .round ≡ round
 
--- the sender's frame of each round is handed to the reader while it is in that round, and nothing else under its slot with that run number
+-- the sender's frame of each round is handed to the reader in time, while it is in that round or in the one before, and nothing else under
+-- its slot with that run number
 pub record Fair (s : Settings) (run : ℕ) (reader sender : Good) : Type 0 where
   pub sends :
       (round : ℕ) → 1 ≤ round → round ≤ 3 →
-      (bytes : List ℕ) × Round-frame s run sender round bytes × Handed s run reader sender round bytes
+      (bytes : List ℕ) × Round-frame s run sender round bytes × ((h : Handed s run reader sender bytes) × In-time (h .at .round) round)
   pub only :
-      (round : ℕ) (bytes : List ℕ) → Handed s run reader sender round bytes → header-size ≤ length bytes → run-in bytes ≡ run →
+      (bytes : List ℕ) → Handed s run reader sender bytes → header-size ≤ length bytes → run-in bytes ≡ run →
       (its-round : ℕ) × Round-frame s run sender its-round bytes
 
 -- the conditions of demand 3: good columns with numbers of their own, at most t numbers left over, each of which ran, and whose frames

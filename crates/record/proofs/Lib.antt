@@ -1,4 +1,7 @@
 pub mod Refusal
+pub mod InTime
+pub mod FrameRefusal
+pub mod There
 pub mod Size
 pub mod Front
 pub mod View

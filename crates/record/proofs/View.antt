@@ -3,13 +3,14 @@
 use mathlib.Core.Path.{_≡_, refl, sym, _∙_, ap}
 use mathlib.Core.Bool.{Bool, true, false, cond, not}
 use mathlib.Core.List.{List, [], _∷_, map}
+use mathlib.Core.Logic.{inl, inr}
 use mathlib.Core.Option.{Option, none, some}
 use Prim.Native.Nat.{ℕ, zero, suc, _+_, _-_, _≤_, _<_}
 use native.Mathlib.Omega.{arith}
 use lib.Dec.{eqb}
 use lib.ListN.{length, getD, set, take, replicate, length-map, List·getD-map}
 use lib.Seq.{getD-take, take-set-lt, length-take-le}
-use borrow.Author.Tests.{eq-eqb, ne-eqb, lt-ltb}
+use borrow.Author.Tests.{eqb-true, eqb-false, eq-eqb, ne-eqb, lt-ltb, not-true}
 use Rattle.arrays.specs.Array.{padded}
 use Rattle.arrays.proofs.Front.{front-value}
 use Rattle.code.specs.Settings.{Settings, settings, value-size}
@@ -18,15 +19,18 @@ use Rattle.code.specs.Entry.{values-in}
 use Rattle.code.proofs.ValidSettings.{sizes}
 use Rattle.grading.specs.Value.{Value}
 use Rattle.grading.specs.Held.{held-in}
-use Rattle.record.specs.Frame.{header-size, longest-frame, operand-size, frame-size, operand-in}
-use Rattle.record.specs.Record.{who-as, found-as, opened, no-frames, taken-at, is-taken, with-frame, with-refused, raised, refused-at}
+use Rattle.record.specs.Frame.{header-size, longest-frame, operand-size, frame-size, round-in, operand-in}
+use Rattle.record.specs.Record.{who-as, found-as, opened, no-frames, taken-at, is-taken, frames-of, frame-at, In-time, with-operand, with-frame, with-refused, raised, refused-at}
 use Rattle.record.specs.Refusal.{take-refusal}
 use Rattle.record.specs.View.{settings-of, who-in, frame-in, frames-in, found-in, view}
-use Rattle.record.specs.Stored.{no-slot, frame-slot, identity, opened-column, with-slot, with-count}
+use Rattle.record.specs.Stored.{no-slot, frame-slot, identity, opened-column, slots-with, with-slot, with-count}
+use Rattle.record.specs.Steps.Due.{there-by}
 use Rattle.record.specs.declared.Slot.{Slot}
 use Rattle.record.specs.declared.Findings.{Findings}
 use Rattle.record.specs.declared.Column.{Column}
-use Rattle.record.proofs.Refusal.{Opens, taken-of}
+use Rattle.record.proofs.Refusal.{Opens}
+use Rattle.record.proofs.InTime.{in-time-next}
+use Rattle.record.proofs.FrameRefusal.{taken-of}
 use Rattle.record.proofs.Front.{front-operand}
 
 -- one slot
@@ -72,11 +76,29 @@ frames-at s m (suc k) xs d e l h =
     ap (getD (map f (take (s .n) xs)) k) (sym (frame-of-empty (operand-size s m) d e)) ∙ List·getD-map f (take (s .n) xs) k d
     ∙ ap f (getD-take (s .n) xs k d (omega arith)) ∙ ap (λ (i : ℕ). f (getD xs i d)) (sym q)
 
-pub slot-taken :
-    (c : Column) (k : ℕ) (d : Slot) → d .taken ≡ 0 → 1 ≤ k → k ≤ c .who .n →
-    is-taken (taken-at (view c .frames) k) ≡ not (eqb (getD (c .slots) (k - 1) d .taken) 0)
-unfolding view settings-of settings
-slot-taken c k d e l h = ap is-taken (frames-at (settings-of (c .who)) (c .round) k (c .slots) d e l h) ∙ is-taken-frame _ (getD (c .slots) (k - 1) d)
+-- whether a frame that comes in time is there, by the two bytes of the record
+pub slot-there :
+    (c : Column) (p k : ℕ) (d : Slot) → d .taken ≡ 0 → 1 ≤ k → k ≤ c .who .n → In-time (c .round) p →
+    is-taken (frame-at (view c) p k) ≡ there-by (c .round) (getD (c .slots) (k - 1) d .taken) (getD (c .early) (k - 1) d .taken) p
+unfolding view settings-of settings frame-at frames-of there-by
+slot-there c p k d e l h due = go (eqb p (c .round)) (eqb p (suc (c .round))) refl refl
+  where
+    s : Settings
+    s = settings-of (c .who)
+
+    at : (m : ℕ) (xs : List Slot) → is-taken (taken-at (frames-in s m xs) k) ≡ not (eqb (getD xs (k - 1) d .taken) 0)
+    at m xs = ap is-taken (frames-at s m k xs d e l h) ∙ is-taken-frame _ (getD xs (k - 1) d)
+
+    go : (a b : Bool) → eqb p (c .round) ≡ a → eqb p (suc (c .round)) ≡ b →
+        is-taken (taken-at (cond a (frames-in s (c .round) (c .slots)) (cond b (frames-in s (suc (c .round)) (c .early)) [])) k)
+        ≡ cond a (not (eqb (getD (c .slots) (k - 1) d .taken) 0)) (not (eqb (getD (c .early) (k - 1) d .taken) 0))
+    go true b f g = at (c .round) (c .slots)
+    go false true f g = at (suc (c .round)) (c .early)
+    go false false f g = absurd (out due)
+      where
+        out : In-time (c .round) p → ⊥
+        out (inl q) = eqb-false _ _ f q
+        out (inr q) = eqb-false _ _ g q
 
 frames-empty : (size n many : ℕ) (x : Slot) → x .taken ≡ 0 → n ≤ many → map (frame-in size) (take n (replicate many x)) ≡ replicate n none
 frames-empty size zero many x e h = refl
@@ -97,7 +119,7 @@ pub view-opened : (n t w k run : ℕ) (v : Value) → Opens (settings n t w) k v
 unfolding view who-in found-in settings-of settings value-size opened-column identity opened padded
 view-opened n t w k run v o =
     let s = settings n t w in
-    rw (no-slots s 1 (sizes s (o .fine) .few-columns), front-value v (replicate value-room 0) w (o .size)) refl
+    rw (no-slots s 1 (sizes s (o .fine) .few-columns), no-slots s 2 (sizes s (o .fine) .few-columns), front-value v (replicate value-room 0) w (o .size)) refl
 
 -- V, Y, values and confidences
 module _ (s : Settings) (m : ℕ) (f : Findings) where
@@ -118,14 +140,26 @@ slot-read : (size : ℕ) (bs : List ℕ) → length bs ≡ header-size + size �
 unfolding frame-slot padded
 slot-read size bs e = frame-of-taken size (frame-slot bs) (λ z. omega arith) ∙ ap some (front-operand bs (replicate longest-frame 0) size e)
 
-pub view-slot : (c : Column) (k : ℕ) (bs : List ℕ) → take-refusal (view c) k bs ≡ 0 → view (with-slot c k bs) ≡ with-frame (view c) k (operand-in bs)
-unfolding view with-frame frame-size who-in who-as settings-of settings with-slot
+-- slots of a round with one more frame, if it is one of theirs
+slots-read :
+    (s : Settings) (m k : ℕ) (b : Bool) (xs : List Slot) (bs : List ℕ) → 1 ≤ k → k ≤ s .n → (b ≡ true → length bs ≡ frame-size s m) →
+    frames-in s m (slots-with b xs k bs) ≡ with-operand b (frames-in s m xs) k (operand-in bs)
+unfolding slots-with with-operand frame-size
+slots-read s m k true xs bs low high fits =
+    frames-set s m (k - 1) xs (frame-slot bs) (omega arith) ∙ ap (set (frames-in s m xs) (k - 1)) (slot-read (operand-size s m) bs (fits refl))
+slots-read s m k false xs bs low high fits = refl
+
+pub view-slot : (c : Column) (k : ℕ) (bs : List ℕ) → take-refusal (view c) k bs ≡ 0 → view (with-slot c k bs) ≡ with-frame (view c) (round-in bs) k (operand-in bs)
+unfolding view with-frame who-in who-as settings-of settings with-slot
 view-slot c k bs e =
     let taken = taken-of (view c) k bs e in
     let s = settings-of (c .who) in
-    let low = taken .low in
-    let high = taken .high in
-    rw (frames-set s (c .round) (k - 1) (c .slots) (frame-slot bs) (omega arith), slot-read (operand-size s (c .round)) bs (taken .fits .size))
+    rw (
+      slots-read s (c .round) k (eqb (round-in bs) (c .round)) (c .slots) bs (taken .low) (taken .high)
+          (λ f. taken .fits .size ∙ ap (frame-size s) (eqb-true _ _ f)),
+      slots-read s (suc (c .round)) k (not (eqb (round-in bs) (c .round))) (c .early) bs (taken .low) (taken .high)
+          (λ f. taken .fits .size ∙ ap (frame-size s) (in-time-next (taken .due) (not-true _ f))),
+    )
 
 -- the count
 pub view-refused : (c : Column) (k : ℕ) → view (with-count c (raised (c .refused))) ≡ with-refused (view c) k

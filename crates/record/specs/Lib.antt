@@ -3,3 +3,4 @@ pub mod Record
 pub mod Refusal
 pub mod View
 pub mod Stored
+pub mod Steps

@@ -1,9 +1,11 @@
 -- A column's record: plain data with its round. Assumes nothing: these are definitions.
-use mathlib.Core.Bool.{Bool, true, false, cond}
+use mathlib.Core.Path.{_≡_}
+use mathlib.Core.Bool.{Bool, true, false, cond, not}
 use mathlib.Core.List.{List, []}
+use mathlib.Core.Logic.{_⊎_}
 use mathlib.Core.Option.{Option, none, some}
 use Prim.Native.Nat.{ℕ, zero, suc, _-_}
-use lib.Dec.{ltb}
+use lib.Dec.{ltb, eqb}
 use lib.ListN.{getD, set, replicate}
 use Rattle.code.specs.Settings.{Settings}
 use Rattle.grading.specs.Value.{Value, Vector}
@@ -30,24 +32,25 @@ pub record Found : Type 0 where
 unfoldable pub found-as : (heard agreed : Vector) → List Held → Found
 found-as vs ys hs = record { heard = vs; agreed = ys; held = hs }
 
--- the record: who the column is; what came in, the frames taken in this round, by slot, as operands; what it has found; its round, 1 to
--- 4, where 4 is finished; the count of refused frames
+-- the record: who the column is; what came in, by slot, as operands: the frames of this round, and those of the round that follows, which
+-- came early; what it has found; its round, 1 to 4, where 4 is finished; the count of refused frames
 pub record Rec : Type 0 where
   pub who : Who
   pub frames : List (Option (List ℕ))
+  pub early : List (Option (List ℕ))
   pub found : Found
   pub round : ℕ
   pub refused : ℕ
 
--- no frame taken yet, in any of n slots
+-- no frame there, in any of n slots
 unfoldable pub no-frames : Settings → List (Option (List ℕ))
 no-frames s = replicate (s .n) none
 
 -- a record as opening makes it: round one, the refused count 0
 unfoldable pub opened : Settings → (number run : ℕ) → (own : Value) → Rec
-opened s k run v = record { who = who-as s k run v; frames = no-frames s; found = found-as [] [] []; round = 1; refused = 0 }
+opened s k run v = record { who = who-as s k run v; frames = no-frames s; early = no-frames s; found = found-as [] [] []; round = 1; refused = 0 }
 
--- the frame taken in a slot, if there is one; slots count from 1
+-- the frame in a slot, if there is one; slots count from 1
 unfoldable pub taken-at : List (Option (List ℕ)) → (slot : ℕ) → Option (List ℕ)
 taken-at fs zero = none
 taken-at fs (suc k) = getD fs k none
@@ -57,7 +60,19 @@ unfoldable pub is-taken : Option (List ℕ) → Bool
 is-taken none = false
 is-taken (some x) = true
 
--- the frame of a sender that counts in this round: the one taken
+-- the frames of a round that are there: of this round, of the one that follows, and of no other
+unfoldable pub frames-of : Rec → (round : ℕ) → List (Option (List ℕ))
+frames-of r m = cond (eqb m (r .round)) (r .frames) (cond (eqb m (suc (r .round))) (r .early) [])
+
+-- a sender's frame of a round, if it is there
+unfoldable pub frame-at : Rec → (round slot : ℕ) → Option (List ℕ)
+frame-at r m k = taken-at (frames-of r m) k
+
+-- a frame of a round comes in time: the reader is in that round, or in the one before
+abbrev pub In-time : (reader its-round : ℕ) → Type 0
+In-time m p = (p ≡ m) ⊎ (p ≡ suc m)
+
+-- the frame of a sender that counts in this round, whether it came in it or early
 unfoldable pub counted : Rec → (slot : ℕ) → Option (List ℕ)
 counted r k = taken-at (r .frames) k
 
@@ -71,13 +86,25 @@ raised n = cond (ltb n 4294967295) (suc n) n
 
 -- the record with one more frame refused, that came in this slot
 unfoldable pub with-refused : Rec → (slot : ℕ) → Rec
-with-refused r k = record { who = r .who; frames = r .frames; found = r .found; round = r .round; refused = raised (refused-at r k) }
+with-refused r k = record { who = r .who; frames = r .frames; early = r .early; found = r .found; round = r .round; refused = raised (refused-at r k) }
 
--- the record with the operand of a frame taken in this slot
-unfoldable pub with-frame : Rec → (slot : ℕ) → (operand : List ℕ) → Rec
-with-frame r k x =
-    record { who = r .who; frames = set (r .frames) (k - 1) (some x); found = r .found; round = r .round; refused = r .refused }
+-- frames by slot with the operand of one more, if it is one of theirs
+unfoldable pub with-operand : (theirs : Bool) → List (Option (List ℕ)) → (slot : ℕ) → (operand : List ℕ) → List (Option (List ℕ))
+with-operand b fs k x = cond b (set fs (k - 1) (some x)) fs
 
--- the record one round on, with what it has found then
+-- the record with the operand of a frame of a round, this one or the one that follows, that came in this slot
+unfoldable pub with-frame : Rec → (round slot : ℕ) → (operand : List ℕ) → Rec
+with-frame r m k x =
+    record {
+      who = r .who;
+      frames = with-operand (eqb m (r .round)) (r .frames) k x;
+      early = with-operand (not (eqb m (r .round))) (r .early) k x;
+      found = r .found;
+      round = r .round;
+      refused = r .refused;
+    }
+
+-- the record one round on, with what it has found then: frames that came early count, and none has come early yet
 unfoldable pub next-round : Rec → Found → Rec
-next-round r f = record { who = r .who; frames = no-frames (r .who .settings); found = f; round = suc (r .round); refused = r .refused }
+next-round r f =
+    record { who = r .who; frames = r .early; early = no-frames (r .who .settings); found = f; round = suc (r .round); refused = r .refused }

@@ -2,13 +2,13 @@
 -- applies is its answer. Assumes nothing: these are definitions.
 use mathlib.Core.Bool.{Bool, _&&_, _||_, not, cond}
 use mathlib.Core.List.{List, [], _∷_}
-use Prim.Native.Nat.{ℕ}
+use Prim.Native.Nat.{ℕ, suc}
 use lib.Dec.{ltb, leb, eqb}
 use lib.ListN.{length}
 use Rattle.code.specs.Settings.{Settings, settings-refusal}
 use Rattle.grading.specs.Value.{Value, is-blank}
 use Rattle.record.specs.Frame.{header-size, frame-size, round-in, sender-in, run-in}
-use Rattle.record.specs.Record.{Who, Rec, taken-at, is-taken}
+use Rattle.record.specs.Record.{Who, Rec, is-taken, frame-at}
 
 -- a line of the table: its number where it applies, else 0, which is no refusal
 unfoldable pub line : (number : ℕ) → (applies : Bool) → ℕ
@@ -61,13 +61,13 @@ sender-refusal k bs = line 12 (not (eqb (sender-in bs) k))
 unfoldable pub run-refusal : (run : ℕ) → (bytes : List ℕ) → ℕ
 run-refusal run bs = line 13 (not (eqb (run-in bs) run))
 
--- 14: frame of another round
-unfoldable pub other-round-refusal : (round : ℕ) → (bytes : List ℕ) → ℕ
-other-round-refusal m bs = line 14 (not (eqb (round-in bs) m))
+-- 14: the frame's round is closed, or two ahead
+unfoldable pub other-round-refusal : (round its-round : ℕ) → ℕ
+other-round-refusal m p = line 14 (ltb p m || ltb (suc m) p)
 
--- 15: this sender's frame of this round already taken
-unfoldable pub repeated-refusal : (taken : Bool) → ℕ
-repeated-refusal taken = line 15 taken
+-- 15: this sender's frame of that round is there already, taken in its round or early
+unfoldable pub repeated-refusal : (there : Bool) → ℕ
+repeated-refusal there = line 15 there
 
 -- 16: lent buffer shorter than the frame
 unfoldable pub room-refusal : Settings → (round room : ℕ) → ℕ
@@ -85,19 +85,19 @@ open-refusal s k v = first-of (settings-refusal s ∷ number-refusal (s .n) k �
 unfoldable pub record-refusal : Who → ℕ
 record-refusal w = first-of (settings-refusal (w .settings) ∷ number-refusal (w .settings .n) (w .number) ∷ blank-refusal (w .own) ∷ [])
 
--- a frame: 9 to 15
-unfoldable pub frame-refusal : Settings → (run round slot : ℕ) → (taken : Bool) → (bytes : List ℕ) → ℕ
-frame-refusal s run m k taken bs =
+-- a frame, whose sender's frame of that round is there already or not: 9 to 15
+unfoldable pub frame-refusal : Settings → (run round slot : ℕ) → (there : Bool) → (bytes : List ℕ) → ℕ
+frame-refusal s run m k there bs =
     first-of
-    (short-refusal bs ∷ command-refusal bs ∷ length-refusal s bs ∷ sender-refusal k bs ∷ run-refusal run bs ∷ other-round-refusal m bs
-    ∷ repeated-refusal taken ∷ [])
+    (short-refusal bs ∷ command-refusal bs ∷ length-refusal s bs ∷ sender-refusal k bs ∷ run-refusal run bs ∷ other-round-refusal m (round-in bs)
+    ∷ repeated-refusal there ∷ [])
 
 -- taking a frame: the record's, 7, 8, the frame's
 unfoldable pub take-refusal : Rec → (slot : ℕ) → (bytes : List ℕ) → ℕ
 take-refusal r k bs =
     first-of
     (record-refusal (r .who) ∷ round-refusal (r .round) ∷ slot-refusal (r .who .settings .n) (r .who .number) k
-    ∷ frame-refusal (r .who .settings) (r .who .run) (r .round) k (is-taken (taken-at (r .frames) k)) bs ∷ [])
+    ∷ frame-refusal (r .who .settings) (r .who .run) (r .round) k (is-taken (frame-at r (round-in bs) k)) bs ∷ [])
 
 -- sending: the record's, 7, 16
 unfoldable pub send-refusal : Rec → (room : ℕ) → ℕ

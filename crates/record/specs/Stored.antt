@@ -1,6 +1,6 @@
 -- Every byte of the record that the program holds: as opening makes it, with one more frame, with another count, one round on. Bytes
 -- that hold nothing are 0. Assumes nothing: these are definitions.
-use mathlib.Core.Bool.{cond}
+use mathlib.Core.Bool.{Bool, cond, not}
 use mathlib.Core.List.{List, []}
 use Prim.Native.Nat.{ℕ, _+_, _-_}
 use lib.Dec.{eqb}
@@ -9,7 +9,7 @@ use Rattle.arrays.specs.Array.{padded}
 use Rattle.code.specs.Size.{most-columns, value-room, vector-room}
 use Rattle.code.specs.Vector.{glued}
 use Rattle.grading.specs.Held.{held-values, held-confidences}
-use Rattle.record.specs.Frame.{longest-frame}
+use Rattle.record.specs.Frame.{longest-frame, round-in}
 use Rattle.record.specs.Record.{Found, raised}
 use Rattle.record.specs.Refusal.{frame-fault}
 use Rattle.record.specs.declared.Identity.{Identity}
@@ -37,20 +37,31 @@ identity n t w k run v = record { n = n; t = t; w = w; number = k; run = run; ow
 -- no column: every byte is 0, so that each call on it is refused
 unfoldable pub no-column : Column
 no-column =
-    record { who = identity 0 0 0 0 0 []; slots = replicate most-columns no-slot; found = no-findings; round = 0; refused = 0 }
+    record { who = identity 0 0 0 0 0 []; slots = replicate most-columns no-slot; early = replicate most-columns no-slot; found = no-findings; round = 0; refused = 0 }
 
 -- a column as opening makes it
 unfoldable pub opened-column : Identity → Column
-opened-column i = record { who = i; slots = replicate most-columns no-slot; found = no-findings; round = 1; refused = 0 }
+opened-column i = record { who = i; slots = replicate most-columns no-slot; early = replicate most-columns no-slot; found = no-findings; round = 1; refused = 0 }
 
--- a column with a frame in a slot
+-- slots with one more frame, if it is one of theirs
+unfoldable pub slots-with : (theirs : Bool) → List Slot → (slot : ℕ) → (frame : List ℕ) → List Slot
+slots-with b slots k bs = cond b (set slots (k - 1) (frame-slot bs)) slots
+
+-- a column with a frame in a slot: of its round, or early, by the frame's command
 unfoldable pub with-slot : Column → (slot : ℕ) → (frame : List ℕ) → Column
 with-slot c k bs =
-    record { who = c .who; slots = set (c .slots) (k - 1) (frame-slot bs); found = c .found; round = c .round; refused = c .refused }
+    record {
+      who = c .who;
+      slots = slots-with (eqb (round-in bs) (c .round)) (c .slots) k bs;
+      early = slots-with (not (eqb (round-in bs) (c .round))) (c .early) k bs;
+      found = c .found;
+      round = c .round;
+      refused = c .refused;
+    }
 
 -- a column with another count of refused frames
 unfoldable pub with-count : Column → (refused : ℕ) → Column
-with-count c k = record { who = c .who; slots = c .slots; found = c .found; round = c .round; refused = k }
+with-count c k = record { who = c .who; slots = c .slots; early = c .early; found = c .found; round = c .round; refused = k }
 
 -- a column after a refusal: as before, but for the count under 9 to 15
 unfoldable pub after-refusal : (answer : ℕ) → Column → Column
@@ -66,6 +77,6 @@ found-now m f q =
       confidences = cond (eqb m 3) (padded most-columns (held-confidences (q .held))) (f .confidences);
     }
 
--- a column one round on, its slots empty, with what it has found then
+-- a column one round on, with what it has found then: the frames that came early are in its slots, and none has come early yet
 unfoldable pub one-on : Column → Findings → Column
-one-on c f = record { who = c .who; slots = replicate most-columns no-slot; found = f; round = c .round + 1; refused = c .refused }
+one-on c f = record { who = c .who; slots = c .early; early = replicate most-columns no-slot; found = f; round = c .round + 1; refused = c .refused }

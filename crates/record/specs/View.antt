@@ -3,7 +3,7 @@
 use mathlib.Core.Bool.{cond}
 use mathlib.Core.List.{List, [], map}
 use mathlib.Core.Option.{Option, none, some}
-use Prim.Native.Nat.{ℕ}
+use Prim.Native.Nat.{ℕ, suc}
 use lib.Dec.{ltb, eqb}
 use lib.ListN.{take}
 use Rattle.code.specs.Settings.{Settings, settings, value-size}
@@ -45,6 +45,7 @@ view c =
     record {
       who = who-in (c .who);
       frames = frames-in s (c .round) (c .slots);
+      early = frames-in s (suc (c .round)) (c .early);
       found = found-in s (c .round) (c .found);
       round = c .round;
       refused = c .refused;
@@ -53,4 +54,4 @@ view c =
 -- a record by what came in alone: who the column is, its round and its slots
 unfoldable pub inbox : Identity → (round : ℕ) → List Slot → Rec
 inbox i m slots =
-    record { who = who-in i; frames = frames-in (settings-of i) m slots; found = found-as [] [] []; round = m; refused = 0 }
+    record { who = who-in i; frames = frames-in (settings-of i) m slots; early = []; found = found-as [] [] []; round = m; refused = 0 }

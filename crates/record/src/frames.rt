@@ -1,20 +1,20 @@
 // Frames: their lengths, and where one is turned down, the numbers 9 to 15.
 ghost use mathlib.Core.Path.{_≡_};
-ghost use mathlib.Core.Bool.{not};
+ghost use mathlib.Core.List.{[], _∷_};
 ghost use Prim.Native.Nat.{_+_, _*_, _≤_};
-ghost use lib.Dec.{eqb};
 ghost use lib.ListN.{length};
 ghost use Rattle.arrays.specs.Array.{in-front};
 ghost use Rattle.code.specs.Settings.{settings, settings-refusal};
 ghost use Rattle.code.specs.Size.{most-columns, value-room, checks-room};
-ghost use Rattle.record.specs.Frame.{header-size, operand-size, frame-size, longest-frame, command-round, header};
-ghost use Rattle.record.specs.Refusal.{frame-refusal};
+ghost use Rattle.record.specs.Frame.{header-size, operand-size, frame-size, longest-frame, command-round, round-in, header};
+ghost use Rattle.record.specs.Refusal.{first-of, other-round-refusal, repeated-refusal, frame-refusal};
+ghost use Rattle.record.specs.Steps.Due.{there-by};
 ghost use Rattle.record.specs.View.{settings-of};
 use crate::HEADER;
 use crate::Identity;
 
 // The round that a command belongs to; 0, an unknown command.
-fn command_round(command: u8) -> u32
+pub fn command_round(command: u8) -> u32
     ensures { λ r. ⌜ r ≡ command-round command ⌝ }
 {
     if command == 0x11 {
@@ -55,10 +55,40 @@ fn run_number(high: u8, low: u8) -> u32
     (high as u32) * 256 + low as u32
 }
 
-// A frame that came in a slot, which holds one already or not.
-pub fn frame_refusal(who: Identity, round: u32, slot: u32, taken: u8, frame: &[u8]) -> u32
+// The round of a frame: 14, closed or two ahead; 15, the sender's frame of that round is there already.
+fn due_refusal(sent: u32, round: u32, taken: u8, early: u8) -> u32
+    requires { ⌜ sent ≤ 3 ⌝ }
+    ensures { λ r. ⌜ r ≡ first-of (other-round-refusal round sent ∷ repeated-refusal (there-by round taken early sent) ∷ []) ⌝ }
+{
+    if sent < round {
+        return 14;
+    }
+    if round + 1 < sent {
+        return 14;
+    }
+    if sent == round {
+        if taken != 0 {
+            return 15;
+        }
+        return 0;
+    }
+    if early != 0 {
+        return 15;
+    }
+    0
+}
+
+// A frame that came in a slot, which has one of this round already or not, and one that came early or not.
+pub fn frame_refusal(
+    who: Identity,
+    round: u32,
+    slot: u32,
+    taken: u8,
+    early: u8,
+    frame: &[u8],
+) -> u32
     requires { ⌜ settings-refusal (settings-of who) ≡ 0 ⌝ }
-    ensures { λ r. ⌜ r ≡ frame-refusal (settings-of who) (who .run) round slot (not (eqb taken 0)) (now (frame .entry)) ⌝ }
+    ensures { λ r. ⌜ r ≡ frame-refusal (settings-of who) (who .run) round slot (there-by round taken early (round-in (now (frame .entry)))) (now (frame .entry)) ⌝ }
 {
     if frame.len() < HEADER {
         return 9;
@@ -77,13 +107,7 @@ pub fn frame_refusal(who: Identity, round: u32, slot: u32, taken: u8, frame: &[u
     if run_number(frame[2], frame[3]) != who.run as u32 {
         return 13;
     }
-    if sent != round {
-        return 14;
-    }
-    if taken != 0 {
-        return 15;
-    }
-    0
+    due_refusal(sent, round, taken, early)
 }
 
 // Command, sender, and the run number, high byte first.

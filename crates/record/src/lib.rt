@@ -46,11 +46,13 @@ pub struct Findings {
     pub confidences: [u8; MOST_COLUMNS],
 }
 
-// A record: who the column is, what came in by slot, what it has found, its round, 1 to 4, and the count of refused frames.
+// A record: who the column is, what came in by slot, for its round and early for the one that follows, what it has found, its round, 1
+// to 4, and the count of refused frames.
 #[repr(C)]
 pub struct Column {
     pub who: Identity,
     pub slots: [Slot; MOST_COLUMNS],
+    pub early: [Slot; MOST_COLUMNS],
     pub found: Findings,
     pub round: u32,
     pub refused: u32,
@@ -93,6 +95,7 @@ pub fn empty() -> Column
     Column {
         who,
         slots,
+        early: slots,
         found,
         round: 0,
         refused: 0,

@@ -4,7 +4,7 @@ use mathlib.Core.Path.{_≡_, refl, sym, _∙_, ap, ap₂, subst}
 use mathlib.Core.Bool.{Bool, true, false, cond}
 use mathlib.Core.List.{List, []}
 use mathlib.Core.Option.{Option}
-use Prim.Native.Nat.{ℕ, _+_, _*_, _-_, _≤_, _<_}
+use Prim.Native.Nat.{ℕ, suc, _+_, _*_, _-_, _≤_, _<_}
 use native.Mathlib.Numerals.{add-one}
 use native.Mathlib.Omega.{arith}
 use lib.Dec.{eqb}
@@ -126,7 +126,9 @@ module _ (c : Column) (i : Inside (c .who)) where
   one-on-view : (f : Findings) → view (one-on c f) ≡ next-round (view c) (found-in (settings-of (c .who)) (c .round + 1) f)
   unfolding view one-on next-round who-in who-as settings-of settings
   one-on-view f =
-      let frames = no-slots (settings-of (c .who)) (c .round + 1) (i .few-columns) in
+      let s = settings-of (c .who) in
+      let frames = ap (λ (m : ℕ). frames-in s m (c .early)) (add-one (c .round)) in
+      let early = no-slots s (suc (c .round + 1)) (i .few-columns) in
       let round = add-one (c .round) in
       cc
 

@@ -22,6 +22,7 @@ column-past =
     record {
       who = record { n = 0; t = 0; w = 0; number = 0; run = 0; own = [] };
       slots = [];
+      early = [];
       found = record { heard = []; agreed = []; values = []; confidences = [] };
       round = 0;
       refused = 0;

@@ -39,21 +39,21 @@ found-after-requires c κs = passed c
 
 add-column : tie.Need-add-column
 unfolding view
-add-column c = let e = c .before .before .before in omega (arith, close-round (view (start e .args .column)) (passed e))
+add-column c = let e = c .before .before .before .before in omega (arith, close-round (view (start e .args .column)) (passed e))
 
--- a column one round on, its slots as they are made
-abbrev with-slots : Column → Findings → List Slot → Column
-with-slots c f slots = record { who = c .who; slots = slots; found = f; round = c .round + 1; refused = c .refused }
+-- a column one round on, the room for early frames as it is made
+abbrev with-room : Column → Findings → List Slot → Column
+with-room c f slots = record { who = c .who; slots = c .early; early = slots; found = f; round = c .round + 1; refused = c .refused }
 
 returns : tie.Need-returns
 unfolding view one-on
 returns c =
-    let made = c .before .before in
+    let made = c .before .before .before in
     let e = made .before in
     let a = start e .args .column in
     let f = made .found-after .result in
     let finds = made .found-after .ensures in
-    let now : with-slots a f (c .before .no-slots .result) ≡ one-on a f = ap (with-slots a f) (c .before .no-slots .ensures) in
+    let now : with-room a f (c .before .no-slots .result) ≡ one-on a f = ap (with-room a f) (c .before .no-slots .ensures) in
     record {
       answered = answer (e .before);
       reads =

@@ -42,7 +42,7 @@ copy-requires c κs = omega (arith, own-fits (c .before))
 
 -- the empty record with another column in round one
 abbrev begun : Column → Identity → Column
-begun c i = record { who = i; slots = c .slots; found = c .found; round = 1; refused = c .refused }
+begun c i = record { who = i; slots = c .slots; early = c .early; found = c .found; round = 1; refused = c .refused }
 
 returns : tie.Need-returns
 unfolding no-column opened-column identity padded

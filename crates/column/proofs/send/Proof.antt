@@ -17,7 +17,8 @@ use Rattle.record.specs.Frame.{header-size, operand-size, frame-size, header}
 use Rattle.record.specs.Record.{who-as}
 use Rattle.record.specs.Refusal.{first-of, record-refusal, round-refusal, room-refusal}
 use Rattle.record.specs.View.{settings-of, who-in, view}
-use Rattle.record.proofs.Refusal.{line-applies, line-passed, first-of-zero, first-of-here, first-of-next, first-of-last, round-inside, record-settings, record-number, frame-four, send-lines}
+use Rattle.record.proofs.Refusal.{line-applies, line-passed, first-of-zero, first-of-here, first-of-next, first-of-last, round-inside, record-settings, record-number, send-lines}
+use Rattle.record.proofs.FrameRefusal.{frame-four}
 use Rattle.column.proofs.Sent.{frame-sent}
 use Rattle.column.proofs.send.Statement.{statement}
 use Rattle.column.proofs.send.Tie as tie

@@ -1,25 +1,28 @@
 -- `take` meets its contract: the lines before the frame's own leave the record, the frame's own leave it with one more refused, and a
 -- frame that is not refused stands in its slot. Assumes nothing.
 use mathlib.Core.Path.{_≡_, refl, sym, _∙_, ap}
-use mathlib.Core.Bool.{Bool, true, false}
-use mathlib.Core.List.{[], _∷_}
+use mathlib.Core.Bool.{Bool, true, false, cond, not}
+use mathlib.Core.List.{List, [], _∷_}
 use Prim.Native.Nat.{ℕ, _-_, _≤_}
 use native.Mathlib.Omega.{arith}
+use lib.Dec.{eqb}
 use borrow.Author.Needs.{needs}
+use borrow.Author.Tests.{eq-eqb, ne-eqb}
 use lib.ListN.{length, set}
 use Rattle.code.specs.Settings.{settings, settings-refusal}
 use Rattle.code.specs.Size.{most-columns}
 use Rattle.code.proofs.ValidSettings.{sizes}
-use Rattle.record.specs.Frame.{longest-frame}
+use Rattle.record.specs.Frame.{longest-frame, round-in}
 use Rattle.record.specs.Record.{raised, who-as}
 use Rattle.record.specs.Refusal.{first-of, record-refusal, round-refusal, slot-refusal, frame-refusal, take-refusal, frame-fault}
 use Rattle.record.specs.View.{settings-of, who-in, view}
-use Rattle.record.specs.Stored.{with-slot, with-count, after-refusal}
+use Rattle.record.specs.Stored.{frame-slot, slots-with, with-slot, with-count, after-refusal}
 use Rattle.record.specs.declared.Slot.{Slot}
 use Rattle.record.specs.declared.Column.{Column}
-use Rattle.record.proofs.Refusal.{first-of-zero, first-of-here, first-of-next, first-of-last, slot-inside, record-settings, taken-of, take-lines, early-low, uncounted, frame-counts}
+use Rattle.record.proofs.Refusal.{first-of-zero, first-of-here, first-of-next, first-of-last, slot-inside, record-settings}
+use Rattle.record.proofs.FrameRefusal.{taken-of, take-lines, frame-four, before-frame-low, uncounted, frame-counts, frame-refusal-there}
 use Rattle.record.proofs.Size.{frame-fits-slot}
-use Rattle.record.proofs.View.{slot-taken}
+use Rattle.record.proofs.View.{slot-there}
 use Rattle.column.proofs.take.Statement.{statement}
 use Rattle.column.proofs.take.Tie as tie
 
@@ -33,23 +36,23 @@ unfolding after-refusal
 counted a c h = rw h refl
 
 -- what the lines before the frame's own give
-early-lines :
+lines-before :
     (c : tie.After-slot-refusal) →
     (let a = c .before .before .before .args in
     let i = a .t1 .who in
     c .slot-refusal .result ≡ first-of (record-refusal (who-in i) ∷ round-refusal (a .t1 .round) ∷ slot-refusal (i .n) (i .number) (a .slot) ∷ []))
-early-lines c = c .slot-refusal .ensures
+lines-before c = c .slot-refusal .ensures
 
-returns-3 : tie.Need-returns-3
+returns-4 : tie.Need-returns-4
 unfolding view who-in who-as settings-of settings
-returns-3 c =
+returns-4 c =
     let a = c .before .before .before .before .args in
-    let e = early-lines (c .before) in
+    let e = lines-before (c .before) in
     let number = c .if1 .left in
     record {
       answered = sym (take-lines (view (a .t1)) (a .slot) (a .frame .now) ∙ first-of-here _ (sym e) number);
       done = λ z. absurd (number z);
-      refused = λ z. kept _ (a .t1) (uncounted _ (rw e (early-low (who-in (a .t1 .who)) (a .t1 .round) (a .slot))));
+      refused = λ z. kept _ (a .t1) (uncounted _ (rw e (before-frame-low (who-in (a .t1 .who)) (a .t1 .round) (a .slot))));
     }
 
 -- past those lines
@@ -57,7 +60,7 @@ abbrev start : tie.Then1 → tie.Start
 start c = c .before .before .before .before
 
 record Passed (c : tie.Then1) : Type 0 where
-  early :
+  lines :
       first-of
       (record-refusal (who-in (start c .args .t1 .who)) ∷ round-refusal (start c .args .t1 .round)
       ∷ slot-refusal (start c .args .t1 .who .n) (start c .args .t1 .who .number) (start c .args .slot) ∷ [])
@@ -70,13 +73,13 @@ record Passed (c : tie.Then1) : Type 0 where
 passed : (c : tie.Then1) → Passed c
 unfolding who-in who-as settings-of settings
 passed c =
-    let zero = sym (early-lines (c .before)) ∙ c .if1 .taken in
+    let zero = sym (lines-before (c .before)) ∙ c .if1 .taken in
     let record-line = first-of-zero _ _ zero in
     let round-line = first-of-zero _ _ (record-line .1) in
     let slot-line = first-of-zero _ _ (round-line .1) in
     let inside = slot-inside _ _ _ (slot-line .0) in
     let fine = record-settings (who-in (start c .args .t1 .who)) (record-line .0) in
-    record { early = zero; fine = fine; low = inside .0; high = inside .1; few = sizes _ fine .few-columns }
+    record { lines = zero; fine = fine; low = inside .0; high = inside .1; few = sizes _ fine .few-columns }
 
 sub-k : tie.Need-sub-k
 sub-k c = omega (arith, passed c)
@@ -84,12 +87,15 @@ sub-k c = omega (arith, passed c)
 element-copy-out-place : tie.Need-element-copy-out-place
 element-copy-out-place c = omega (arith, passed c)
 
+element-copy-out-early : tie.Need-element-copy-out-early
+element-copy-out-early c = omega (arith, passed (c .before))
+
 frame-refusal-requires : tie.Need-frame-refusal-requires
-frame-refusal-requires c κs = passed (c .before) .fine
+frame-refusal-requires c κs = passed (c .before .before) .fine
 
 -- the frame's own lines are what is left
 abbrev else-at : tie.After-frame-refusal → tie.Then1
-else-at c = c .before .before
+else-at c = c .before .before .before
 
 frame-answer :
     (c : tie.After-frame-refusal) →
@@ -99,13 +105,13 @@ frame-answer c =
     let a = start (else-at c) .args in
     let h = passed (else-at c) in
     c .frame-refusal .ensures
-    ∙ sym (take-lines (view (a .t1)) (a .slot) (a .frame .now) ∙ first-of-next _ (h .early) (first-of-last _)
-    ∙ ap (λ (b : Bool). frame-refusal (settings-of (a .t1 .who)) (a .t1 .who .run) (a .t1 .round) (a .slot) b (a .frame .now))
-    (slot-taken (a .t1) (a .slot) (record { taken = 0; bytes = [] }) refl (h .low) (h .high)))
+    ∙ sym (take-lines (view (a .t1)) (a .slot) (a .frame .now) ∙ first-of-next _ (h .lines) (first-of-last _)
+    ∙ frame-refusal-there _ _ _ _ _ _ (a .frame .now)
+    (slot-there (a .t1) (round-in (a .frame .now)) (a .slot) (record { taken = 0; bytes = [] }) refl (h .low) (h .high)))
 
-returns-2 : tie.Need-returns-2
+returns-3 : tie.Need-returns-3
 unfolding with-count
-returns-2 c =
+returns-3 c =
     let f = c .before .before in
     let a = start (else-at f) .args in
     let number = c .before .if2 .left in
@@ -125,26 +131,67 @@ unfolding view
 fits c =
     let a = start (else-at (c .before)) .args in
     let h = taken-of (view (a .t1)) (a .slot) (a .frame .now) (taken c) in
-    omega (arith, h .fits .size, frame-fits-slot (view (a .t1) .who .settings) (a .t1 .round) (h .fine))
+    omega (arith, h .fits .size, frame-fits-slot (view (a .t1) .who .settings) (round-in (a .frame .now)) (h .fine))
+
+headed : (c : tie.Then2) → 1 ≤ length (start (else-at (c .before)) .args .frame .now)
+headed c =
+    let a = start (else-at (c .before)) .args in
+    let h = taken-of (view (a .t1)) (a .slot) (a .frame .now) (taken c) in
+    omega (arith, h .fits .size, frame-four (view (a .t1) .who .settings) (round-in (a .frame .now)))
 
 filled-requires : tie.Need-filled-requires
 filled-requires c κs = fits c
 
+shared-slice-read-command-round : tie.Need-shared-slice-read-command-round
+shared-slice-read-command-round c = omega (arith, headed (c .before .before))
+
+-- the frame's command tells where it is put
+abbrev kept-at : tie.After-command-round → tie.Then2
+kept-at c = c .before .before .before
+
 element-set-from-filled : tie.Need-element-set-from-filled
-element-set-from-filled c = omega (arith, passed (else-at (c .before .before)))
+element-set-from-filled c = omega (arith, passed (else-at (kept-at (c .before) .before)))
+
+element-set-from-filled-2 : tie.Need-element-set-from-filled-2
+element-set-from-filled-2 c = omega (arith, passed (else-at (kept-at (c .before) .before)))
+
+-- a column with a frame of its round, or an early one
+abbrev stored : (now : Bool) → Column → (k : ℕ) → Slot → Column
+stored b c k x =
+    record {
+      who = c .who;
+      slots = cond b (set (c .slots) (k - 1) x) (c .slots);
+      early = cond (not b) (set (c .early) (k - 1) x) (c .early);
+      found = c .found;
+      round = c .round;
+      refused = c .refused;
+    }
+
+stored-is : (b : Bool) (c : Column) (k : ℕ) (bs : List ℕ) (x : Slot) → eqb (round-in bs) (c .round) ≡ b → x ≡ frame-slot bs → stored b c k x ≡ with-slot c k bs
+unfolding with-slot slots-with
+stored-is b c k bs x e f = ap (stored b c k) f ∙ ap (λ (q : Bool). stored q c k (frame-slot bs)) (sym e)
 
 returns : tie.Need-returns
-unfolding with-slot
+unfolding round-in
 returns c =
-    let e = c .before in
+    let told = c .before in
+    let e = kept-at told in
     let a = start (else-at (e .before)) .args in
     record {
       answered = frame-answer (e .before);
-      done =
-          λ z.
-          ap
-          (λ (s : Slot). (let q : Column = record { who = a .t1 .who; slots = set (a .t1 .slots) (a .slot - 1) s; found = a .t1 .found; round = a .t1 .round; refused = a .t1 .refused } in q))
-          (c .filled .ensures);
+      done = λ z. stored-is true (a .t1) (a .slot) (a .frame .now) _ (eq-eqb _ _ (sym (told .command-round .ensures) ∙ c .if3 .taken)) (told .before .before .filled .ensures);
+      refused = λ z. absurd (z (e .if2 .taken));
+    }
+
+returns-2 : tie.Need-returns-2
+unfolding round-in
+returns-2 c =
+    let told = c .before in
+    let e = kept-at told in
+    let a = start (else-at (e .before)) .args in
+    record {
+      answered = frame-answer (e .before);
+      done = λ z. stored-is false (a .t1) (a .slot) (a .frame .now) _ (ne-eqb _ _ (λ q. c .if3 .left (told .command-round .ensures ∙ q))) (told .before .before .filled .ensures);
       refused = λ z. absurd (z (e .if2 .taken));
     }
 
@@ -157,11 +204,18 @@ take-spec =
     (λ c. search needs)
     (λ c. search needs)
     element-copy-out-place
+    (λ c. search needs)
+    element-copy-out-early
     frame-refusal-requires
     filled-requires
+    shared-slice-read-command-round
+    (λ c κs. search needs)
     (λ c. search needs)
     element-set-from-filled
+    (λ c. search needs)
+    element-set-from-filled-2
     (λ c κs. search needs)
     returns
     returns-2
-    returns-3)
+    returns-3
+    returns-4)

@@ -1,6 +1,6 @@
 -- Records of bytes. Where the own value and the frames that are taken are bytes, so are V and Y all along a list of calls: each of their
 -- values is the own one, one taken, one of a repaired vector, or blank. Assumes nothing.
-use mathlib.Core.Path.{_≡_, refl, sym, _∙_, ap, subst}
+use mathlib.Core.Path.{_≡_, refl, sym, subst}
 use mathlib.Core.Bool.{Bool, true, false, cond, _&&_}
 use mathlib.Core.List.{List, [], _∷_}
 use mathlib.Core.Logic.{_⊎_, inl, inr}
@@ -20,12 +20,13 @@ use Rattle.code.proofs.Vectors.Planes.{Values, vector-of, vector-back}
 use Rattle.grading.specs.Value.{Value, Vector, Rows, blank, blanks}
 use Rattle.grading.specs.Count.{agreed-at, agreed-vector}
 use Rattle.grading.proofs.Value.{entries-at}
-use Rattle.record.specs.Frame.{header-size, operand-in}
+use Rattle.record.specs.Frame.{header-size, round-in, operand-in}
 use Rattle.record.specs.Record.{Rec, who-as, opened, taken-at, counted, with-frame}
 use Rattle.rounds.specs.Exchange.{value-or-blank, heard-at, heard-vector, Row, Table}
 use Rattle.column.specs.Call.{Call, taking, sending, closing, asking}
-use Rattle.record.proofs.Refusal.{Opens, taken-of}
-use Rattle.column.proofs.Frame.{taken-cases}
+use Rattle.record.proofs.Refusal.{Opens}
+use Rattle.record.proofs.FrameRefusal.{taken-of}
+use Rattle.record.proofs.There.{each-with}
 use Rattle.rounds.proofs.Rows.{Sized, table-rows}
 use Rattle.column.proofs.Step.{Unchanged, Closes, Step, stays, takes, closes}
 use Rattle.grading.proofs.Grade.{agreed-is}
@@ -71,15 +72,20 @@ row-bytes s vs none row r = rw r (blanks-bytes s)
 row-bytes s vs (some x) row (inl r) = vector-bytes s row (r .vector)
 row-bytes s vs (some x) row (inr r) = rw (r .1) (blanks-bytes s)
 
+-- operands of bytes
+abbrev pub Byte-operands : List (Option (List ℕ)) → Type 0
+Byte-operands fs = (j : ℕ) (x : List ℕ) → taken-at fs j ≡ some x → Bytes x
+
 -- a record of bytes
 pub record Byte-record (s : Settings) (r : Rec) : Type 0 where
   pub own : Bytes (r .who .own)
-  pub operands : (j : ℕ) (x : List ℕ) → taken-at (r .frames) j ≡ some x → Bytes x
+  pub operands : Byte-operands (r .frames)
+  pub early-operands : Byte-operands (r .early)
   pub heard : 2 ≤ r .round → Byte-values (s .n) (r .found .heard)
   pub agreed : 3 ≤ r .round → Byte-values (s .n) (r .found .agreed)
 
 heard-bytes :
-    (r : Rec) → Bytes (r .who .own) → ((j : ℕ) (x : List ℕ) → taken-at (r .frames) j ≡ some x → Bytes x) → Byte-values (r .who .settings .n) (heard-vector r)
+    (r : Rec) → Bytes (r .who .own) → Byte-operands (r .frames) → Byte-values (r .who .settings .n) (heard-vector r)
 unfolding heard-vector heard-at value-or-blank counted
 heard-bytes r own operands j h =
     subst Bytes (sym (entries-at (r .who .settings .n) 1 j (heard-at r) [] h)) (go (eqb (1 + j) (r .who .number)) (taken-at (r .frames) (1 + j)) refl)
@@ -126,30 +132,41 @@ module _ (s : Settings) (k run : ℕ) (v : Value) (o : Opens s k v) where
   pub open-bytes : byte-list v ≡ true → Byte-record s (opened s k run v)
   unfolding opened who-as
   open-bytes e =
-      record { own = bytes-of v e; operands = λ j x f. none-there s _ j x refl f; heard = λ h. absurd (omega arith); agreed = λ h. absurd (omega arith) }
+      record {
+        own = bytes-of v e;
+        operands = λ j x f. none-there s _ j x refl f;
+        early-operands = λ j x f. none-there s _ j x refl f;
+        heard = λ h. absurd (omega arith);
+        agreed = λ h. absurd (omega arith);
+      }
 
   unchanged-bytes : (r q : Rec) → Byte-record s r → Unchanged r q → Byte-record s q
   unchanged-bytes r q b u =
       record {
         own = rw (u .who) (b .own);
-        operands = λ j x e. b .operands j x (sym (ap (λ (fs : List (Option (List ℕ))). taken-at fs j) (u .frames)) ∙ e);
+        operands = rw (u .frames) (b .operands);
+        early-operands = rw (u .early) (b .early-operands);
         heard = λ h. rw (u .found) (b .heard (omega (arith, u .round)));
         agreed = λ h. rw (u .found) (b .agreed (omega (arith, u .round)));
       }
 
-  takes-bytes : (r : Rec) (j : ℕ) (y : List ℕ) → Byte-record s r → 1 ≤ j → Bytes y → Byte-record s (with-frame r j y)
+  takes-bytes : (r : Rec) (m j : ℕ) (y : List ℕ) → Byte-record s r → 1 ≤ j → Bytes y → Byte-record s (with-frame r m j y)
   unfolding with-frame
-  takes-bytes r j y b low f = record { own = b .own; operands = λ i x g. go x (taken-cases r i j x y low g); heard = b .heard; agreed = b .agreed }
-    where
-      go : {i : ℕ} (x : List ℕ) → ((i ≡ j) × (x ≡ y)) ⊎ (taken-at (r .frames) i ≡ some x) → Bytes x
-      go x (inl g) = rw (g .1) f
-      go {i} x (inr g) = b .operands i x g
+  takes-bytes r m j y b low f =
+      record {
+        own = b .own;
+        operands = each-with Bytes _ (r .frames) j y low (λ e. f) (b .operands);
+        early-operands = each-with Bytes _ (r .early) j y low (λ e. f) (b .early-operands);
+        heard = b .heard;
+        agreed = b .agreed;
+      }
 
   closes-bytes : (r q : Rec) → Proper s k run v r → Byte-record s r → Closes r q → Byte-record s q
   closes-bytes r q p b x =
       record {
         own = rw (x .who) (b .own);
-        operands = λ j y e. none-there (r .who .settings) (q .frames) j y (x .frames) e;
+        operands = rw (x .frames) (b .early-operands);
+        early-operands = λ j y e. none-there (r .who .settings) (q .early) j y (x .early) e;
         heard = λ h. heard (eq-or-lt-of-le (x .low));
         agreed = λ h. agreed (eq-or-lt-of-le (let two : 2 ≤ r .round = omega (arith, x .round) in two));
       }
@@ -171,5 +188,5 @@ module _ (s : Settings) (k run : ℕ) (v : Value) (o : Opens s k v) where
   unfolding Byte-call operand-in
   step-bytes c r q p b f (stays d u) = unchanged-bytes r q b u
   step-bytes c r q p b f (takes j bs e g) =
-      subst (Byte-record s) (sym g) (takes-bytes r j (operand-in bs) b (taken-of r j bs e .low) (bytes-drop header-size bs f))
+      subst (Byte-record s) (sym g) (takes-bytes r (round-in bs) j (operand-in bs) b (taken-of r j bs e .low) (bytes-drop header-size bs f))
   step-bytes c r q p b f (closes x) = closes-bytes r q p b x

@@ -1,5 +1,6 @@
--- An exchange in which calls are refused all along the lists. Column 4 splits; to column 1 it sends 22, 77 in round two, which repairs
--- nothing, so that its row is "none"; and to column 3 it sends nothing in round three. Assumes nothing: these are definitions.
+-- An exchange in which calls are refused all along the lists, and frames come early. Column 4 splits; to column 1 it sends 22, 77 in round
+-- two, which repairs nothing, so that its row is "none"; and to column 3 it sends nothing in round three. Columns 2 and 3 run ahead of
+-- their readers, and so does column 4. Assumes nothing: these are definitions.
 use mathlib.Core.Bool.{cond}
 use mathlib.Core.List.{List, [], _∷_, _++_, map}
 use mathlib.Core.Option.{none, some}
@@ -44,13 +45,17 @@ says-of rows = map (λ a. a .says) rows
 
 -- column 1: results asked too early (17) and again after the end; sending into 4 and 5 bytes where the frame has 5 and 6 (16), into as
 -- many as it has, and into 40; two bytes only (9), another run number (13), a frame repeated (15), one of the round before (14), one
--- byte too few (11); after the end a closing, a sending and a frame (7)
+-- byte too few (11); column 2's frame of round two a round early, repeated early and in its round (15), and its frame of round three two
+-- rounds ahead (14); after the end a closing, a sending and a frame (7)
 unfoldable pub rough-one : List Answered
 rough-one =
     refused 17 asking
     ∷ refused 16 (sending 4)
     ∷ done (sending 5)
+    ∷ done (taking 2 (sent rough 2 2))
     ∷ done (taking 2 (sent rough 1 2))
+    ∷ refused 15 (taking 2 (sent rough 2 2))
+    ∷ refused 14 (taking 2 (sent rough 3 2))
     ∷ refused 9 (taking 3 (17 ∷ 3 ∷ []))
     ∷ refused 13 (taking 3 (header 1 3 8 ++ (35 ∷ [])))
     ∷ done (taking 3 (sent rough 1 3))
@@ -58,7 +63,7 @@ rough-one =
     ∷ refused 15 (taking 4 (split rough 1 1))
     ∷ done closing
     ∷ done (sending 40)
-    ∷ done (taking 2 (sent rough 2 2))
+    ∷ refused 15 (taking 2 (sent rough 2 2))
     ∷ refused 14 (taking 2 (sent rough 1 2))
     ∷ done (taking 3 (sent rough 2 3))
     ∷ refused 11 (taking 4 (frame 2 4 (22 ∷ [])))
@@ -79,7 +84,8 @@ rough-one =
     ∷ []
 
 -- column 2: a frame in a slot that there is not and in its own (8), a good column's frame repeated (15), an unknown command (10),
--- another's number as sender (12), one byte too many (11)
+-- another's number as sender (12), one byte too many (11); column 4's frame of round two a round early, then another of that round, early
+-- and in its round (15); column 3's frame of round three in round two and never after
 unfoldable pub rough-two : List Answered
 rough-two =
     done (sending 164)
@@ -91,23 +97,26 @@ rough-two =
     ∷ refused 10 (taking 4 (68 ∷ 4 ∷ 0 ∷ 7 ∷ 35 ∷ []))
     ∷ refused 12 (taking 4 (frame 1 3 (35 ∷ [])))
     ∷ refused 11 (taking 4 (frame 1 4 (35 ∷ 35 ∷ [])))
+    ∷ done (taking 4 (split rough 2 2))
+    ∷ refused 15 (taking 4 (split rough 2 1))
     ∷ done (taking 4 (split rough 1 2))
     ∷ done closing
     ∷ done (sending 6)
-    ∷ done (taking 4 (split rough 2 2))
+    ∷ refused 15 (taking 4 (split rough 2 3))
+    ∷ done (taking 3 (sent rough 3 3))
     ∷ done (taking 3 (sent rough 2 3))
     ∷ done (taking 1 (sent rough 2 1))
     ∷ done closing
     ∷ done (sending 7)
     ∷ done (taking 1 (sent rough 3 1))
-    ∷ done (taking 3 (sent rough 3 3))
     ∷ done (taking 4 (split rough 3 2))
     ∷ done closing
     ∷ refused 7 closing
     ∷ done asking
     ∷ []
 
--- column 3: nothing at all (9), a run number of which only the low byte is right (13), and no frame of column 4 in round three
+-- column 3: nothing at all (9), a run number of which only the low byte is right (13), and no frame of column 4 in round three; column 1's
+-- frame of round two and column 4's come a round early
 unfoldable pub rough-three : List Answered
 rough-three =
     done (sending 5)
@@ -115,13 +124,13 @@ rough-three =
     ∷ done (taking 4 (split rough 1 3))
     ∷ done (taking 2 (sent rough 1 2))
     ∷ done (taking 1 (sent rough 1 1))
+    ∷ done (taking 1 (sent rough 2 1))
+    ∷ done (taking 4 (split rough 2 3))
     ∷ done closing
     ∷ refused 17 asking
     ∷ done (sending 6)
     ∷ refused 13 (taking 2 (header 2 2 263 ++ (39 ∷ 78 ∷ [])))
-    ∷ done (taking 1 (sent rough 2 1))
     ∷ done (taking 2 (sent rough 2 2))
-    ∷ done (taking 4 (split rough 2 3))
     ∷ done closing
     ∷ done (sending 6)
     ∷ done (taking 1 (sent rough 3 1))

@@ -1,6 +1,6 @@
 -- The conditions of demand 3, tested, so that examples can be computed. A good column is given by its list of calls, the rows of its
 -- tables and the frames that it sends. It is tested that its list runs, that it sends each frame in its round, that each other is handed
--- it in that round, and that nothing else under its slot has the run number. Assumes nothing.
+-- it in that round or in the one before, and that nothing else under its slot has the run number. Assumes nothing.
 use mathlib.Core.Path.{_≡_, sym, _∙_, ap, subst}
 use mathlib.Core.Bool.{Bool, true, _&&_, _||_, not}
 use mathlib.Core.List.{List, [], _∷_, map}
@@ -18,8 +18,9 @@ use Rattle.code.proofs.Vectors.Planes.{same-equal}
 use Rattle.grading.specs.Value.{Value}
 use Rattle.grading.specs.Promise.{all-different}
 use Rattle.record.specs.Frame.{header-size, run-in}
-use Rattle.record.specs.Record.{Rec, opened}
-use Rattle.record.specs.Refusal.{open-refusal}
+use Rattle.record.specs.Record.{Rec, opened, In-time}
+use Rattle.record.specs.Refusal.{open-refusal, other-round-refusal}
+use Rattle.record.proofs.InTime.{in-time-of}
 use Rattle.column.specs.Call.{Call, here}
 use Rattle.gradecast.specs.Promise.{Among, first, other, Good, numbers, Ran, Round-frame, Handed, Fair, Conditions}
 use Rattle.gradecast.proofs.Goods.{each-map}
@@ -44,9 +45,9 @@ good s run p = record { number = p .number; own = p .own; calls = p .calls; last
 unfoldable pub sends-test : (round : ℕ) → (bytes : List ℕ) → Rec → List Call → Bool
 sends-test m bs r rest = eqb (r .round) m && frame-test bs r
 
--- a column that is handed these bytes in a round
+-- a column that is handed these bytes in time for a round: line 14 passes them
 unfoldable pub hands-test : (slot round : ℕ) → (bytes : List ℕ) → Rec → List Call → Bool
-hands-test k m bs r rest = eqb (r .round) m && takes-now k bs rest
+hands-test k m bs r rest = eqb (other-round-refusal (r .round) m) 0 && takes-now k bs rest
 
 -- too short for a run number, of another run, or one of the frames of a column
 unfoldable pub fair-bytes : (run : ℕ) → Script → (bytes : List ℕ) → Bool
@@ -93,7 +94,7 @@ module _ (s : Settings) (run : ℕ) where
   meets-tested : (a b : Script) → Plays a → Plays b → meets-test s run a b ≡ true → Fair s run (good s run a) (good s run b)
   unfolding meets-test good opening hands-test fair-bytes
   meets-tested a b pa pb e =
-      record { sends = λ m low high. (b .frames m, pb .sends m low high, handed m low high); only = λ m bs h long its-run. only bs long its-run (given-tested (fair-bytes run b) (b .number) bs (both .1) (h .on)) }
+      record { sends = λ m low high. (b .frames m, pb .sends m low high, handed m low high); only = λ bs h long its-run. only bs long its-run (given-tested (fair-bytes run b) (b .number) bs (both .1) (h .on)) }
     where
       at-round : ℕ → Bool
       at-round m = some-place (a .claims) (hands-test (b .number) m (b .frames m)) (a .calls) (opening s run a)
@@ -101,14 +102,14 @@ module _ (s : Settings) (run : ℕ) where
       both : (all-from 3 0 (λ j. at-round (1 + j)) ≡ true) × (given-test (fair-bytes run b) (b .number) (a .calls) ≡ true)
       both = and-split _ _ e
 
-      handed : (m : ℕ) → 1 ≤ m → m ≤ 3 → Handed s run (good s run a) (good s run b) m (b .frames m)
+      handed : (m : ℕ) → 1 ≤ m → m ≤ 3 → (h : Handed s run (good s run a) (good s run b) (b .frames m)) × In-time (h .at .round) m
       handed m low high =
           let back : 1 + (m - 1) ≡ m = omega arith in
           let here = ap at-round (sym back) ∙ all-below-at 3 (λ j. at-round (1 + j)) (both .0) (m - 1) (omega arith) in
           let x = place-tested (a .claims) (hands-test (b .number) m (b .frames m)) (a .calls) (opening s run a) (pa .runs) here in
-          let now = and-split (eqb (x .at .round) m) _ (x .passed) in
+          let now = and-split (eqb (other-round-refusal (x .at .round) m) 0) _ (x .passed) in
           let taken = taken-now (b .number) (b .frames m) (x .rest) (now .1) in
-          record { at = x .at; rest = taken .0; on = rw (taken .1) at (x .on); in-round = eqb-true _ _ (now .0) }
+          (record { at = x .at; rest = taken .0; on = rw (taken .1) at (x .on) }, in-time-of (x .at .round) m (eqb-true _ 0 (now .0)))
 
       one-of : (m : ℕ) (bs : List ℕ) → 1 ≤ m → m ≤ 3 → same bs (b .frames m) ≡ true → (i : ℕ) × Round-frame s run (good s run b) i bs
       one-of m bs low high f = (m, subst (Round-frame s run (good s run b) m) (sym (same-equal bs (b .frames m) f)) (pb .sends m low high))

@@ -1,22 +1,27 @@
 -- `frame_refusal` meets its contract: each answer is the line that refuses first, since those before it gave 0. Assumes nothing.
 use mathlib.Core.Path.{_≡_, sym, _∙_, ap}
-use mathlib.Core.Bool.{not}
+use mathlib.Core.Bool.{Bool, not}
 use mathlib.Core.List.{[], _∷_}
 use Prim.Native.Nat.{ℕ}
 use native.Mathlib.Omega.{arith}
-use lib.Dec.{eqb}
 use borrow.Author.Needs.{needs}
 use borrow.Author.Tests.{eq-eqb, ne-eqb, lt-ltb, le-ltb}
 use Rattle.record.specs.Frame.{frame-size, round-in, sender-in, run-in}
 use Rattle.record.specs.Refusal.{first-of, short-refusal, command-refusal, length-refusal, sender-refusal, run-refusal, other-round-refusal, repeated-refusal, frame-refusal}
+use Rattle.record.specs.Steps.Due.{there-by}
 use Rattle.record.specs.View.{settings-of}
-use Rattle.record.proofs.Refusal.{line-applies, line-passed, first-of-here, first-of-next, first-of-last}
+use Rattle.record.proofs.Refusal.{line-applies, line-passed, first-of-here, first-of-next}
+use Rattle.record.proofs.FrameRefusal.{round-in-most}
 use Rattle.record.proofs.frames.frame_refusal.Statement.{statement}
 use Rattle.record.proofs.frames.frame_refusal.Tie as tie
 
 returns : tie.Need-returns
 unfolding frame-refusal short-refusal
 returns c = sym (first-of-here _ (line-applies 9 _ (lt-ltb _ 4 (c .if1 .taken))) (λ z. omega arith))
+
+-- whether a frame of its round is there
+abbrev there : tie.Start → Bool
+there s = there-by (s .args .round) (s .args .taken) (s .args .early) (round-in (s .args .frame .now))
 
 -- the frame has a header
 abbrev start-at-one : tie.Else1 → tie.Start
@@ -78,12 +83,12 @@ past-length :
     first-of
     (sender-refusal (start-at-two (two-at-three c) .args .slot) (start-at-two (two-at-three c) .args .frame .now)
     ∷ run-refusal (start-at-two (two-at-three c) .args .who .run) (start-at-two (two-at-three c) .args .frame .now)
-    ∷ other-round-refusal (start-at-two (two-at-three c) .args .round) (start-at-two (two-at-three c) .args .frame .now)
-    ∷ repeated-refusal (not (eqb (start-at-two (two-at-three c) .args .taken) 0)) ∷ [])
+    ∷ other-round-refusal (start-at-two (two-at-three c) .args .round) (round-in (start-at-two (two-at-three c) .args .frame .now))
+    ∷ repeated-refusal (there (start-at-two (two-at-three c))) ∷ [])
     ≡ x →
     x
     ≡ frame-refusal (settings-of (start-at-two (two-at-three c) .args .who)) (start-at-two (two-at-three c) .args .who .run) (start-at-two (two-at-three c) .args .round)
-    (start-at-two (two-at-three c) .args .slot) (not (eqb (start-at-two (two-at-three c) .args .taken) 0)) (start-at-two (two-at-three c) .args .frame .now)
+    (start-at-two (two-at-three c) .args .slot) (there (start-at-two (two-at-three c))) (start-at-two (two-at-three c) .args .frame .now)
 unfolding frame-refusal
 past-length c e =
     let two = two-at-three c in sym (first-of-next _ (headed (one-at-two two)) (first-of-next _ (known two) (first-of-next _ (sized c) e)))
@@ -117,46 +122,20 @@ same-run : (c : tie.Else5) → run-refusal (start-at-two (two-at-three (three-at
 unfolding run-refusal run-in
 same-run c = line-passed 13 _ (ap not (eq-eqb _ _ (sym (c .before .before .run-number .ensures) ∙ c .if5 .left)))
 
+due-refusal-requires : tie.Need-due-refusal-requires
+due-refusal-requires c κs = let two = two-at-three (three-at-four (four-at-five c)) in rw (round-read two) (round-in-most _)
+
 returns-6 : tie.Need-returns-6
-unfolding other-round-refusal
 returns-6 c =
     let five = c .before in
     let four = four-at-five five in
+    let a = start-at-two (two-at-three (three-at-four four)) .args in
     past-length (three-at-four four)
     (first-of-next _ (same-sender four)
     (first-of-next _ (same-run five)
-    (first-of-here _ (line-applies 14 _ (ap not (ne-eqb _ _ (λ e. c .if6 .taken (round-read (two-at-three (three-at-four four)) ∙ e))))) (λ z. omega arith))))
-
--- and the round
-abbrev five-at-six : tie.Else6 → tie.Else5
-five-at-six c = c .before
-
-same-round : (c : tie.Else6) → other-round-refusal (start-at-two (two-at-three (three-at-four (four-at-five (five-at-six c)))) .args .round) (start-at-two (two-at-three (three-at-four (four-at-five (five-at-six c)))) .args .frame .now) ≡ 0
-unfolding other-round-refusal
-same-round c =
-    line-passed 14 _ (ap not (eq-eqb _ _ (sym (round-read (two-at-three (three-at-four (four-at-five (five-at-six c))))) ∙ c .if6 .left)))
-
-returns-7 : tie.Need-returns-7
-unfolding repeated-refusal
-returns-7 c =
-    let six = c .before in
-    let five = five-at-six six in
-    let four = four-at-five five in
-    past-length (three-at-four four)
-    (first-of-next _ (same-sender four)
-    (first-of-next _ (same-run five)
-    (first-of-next _ (same-round six) (first-of-last _ ∙ line-applies 15 _ (ap not (ne-eqb _ 0 (c .if7 .taken)))))))
-
-returns-8 : tie.Need-returns-8
-unfolding repeated-refusal
-returns-8 c =
-    let six = c .before in
-    let five = five-at-six six in
-    let four = four-at-five five in
-    past-length (three-at-four four)
-    (first-of-next _ (same-sender four)
-    (first-of-next _ (same-run five)
-    (first-of-next _ (same-round six) (first-of-last _ ∙ line-passed 15 _ (ap not (eq-eqb _ 0 (c .if7 .left)))))))
+    (ap (λ (p : ℕ). first-of (other-round-refusal (a .round) p ∷ repeated-refusal (there-by (a .round) (a .taken) (a .early) p) ∷ []))
+    (sym (round-read (two-at-three (three-at-four four))))
+    ∙ sym (c .due-refusal .ensures))))
 
 pub frame-refusal-spec : {M : Type 1} → statement M
 frame-refusal-spec =
@@ -176,6 +155,5 @@ frame-refusal-spec =
     (λ c κs. search needs)
     (λ c. search needs)
     returns-5
-    returns-6
-    returns-7
-    returns-8)
+    due-refusal-requires
+    returns-6)
