@@ -20,20 +20,19 @@ static void must(uint32_t answer) {
     }
 }
 
-static void run_round(struct sajowemi_column *columns, int round) {
-    size_t size = sajowemi_column_frame_size(&columns[0]);
-    uint8_t frames[GOOD][SAJOWEMI_LONGEST_FRAME];
+/* A column's frame of its round, to the other good ones: those that have not closed the round before keep it for the next. */
+static void send_to_others(struct sajowemi_column *columns, int sender) {
+    uint8_t frame[SAJOWEMI_LONGEST_FRAME];
+    size_t size = sajowemi_column_frame_size(&columns[sender]);
+    must(sajowemi_column_send(&columns[sender], frame, sizeof frame));
     for (int k = 0; k < GOOD; k++)
-        must(sajowemi_column_send(&columns[k], frames[k], sizeof frames[k]));
-    for (int k = 0; k < GOOD; k++) {
-        uint8_t lie[] = {commands[round], LIAR, 0, RUN, lies[round][k][0], lies[round][k][1]};
-        for (int sender = 0; sender < GOOD; sender++)
-            if (sender != k)
-                must(sajowemi_column_take(&columns[k], sender + 1, frames[sender], size)); /* on the air a refusal is counted: go on */
-        must(sajowemi_column_take(&columns[k], LIAR, lie, size));
-    }
-    for (int k = 0; k < GOOD; k++)
-        must(sajowemi_column_close(&columns[k]));
+        if (k != sender)
+            must(sajowemi_column_take(&columns[k], sender + 1, frame, size)); /* on the air a refusal is counted: go on */
+}
+
+static void take_lie(struct sajowemi_column *column, int reader, int round) {
+    uint8_t lie[] = {commands[round], LIAR, 0, RUN, lies[round][reader][0], lies[round][reader][1]};
+    must(sajowemi_column_take(column, LIAR, lie, sajowemi_column_frame_size(column)));
 }
 
 int main(void) {
@@ -42,9 +41,15 @@ int main(void) {
     for (int k = 0; k < GOOD; k++)
         must(sajowemi_column_open(&columns[k], GOOD + BAD, BAD, SIZE, k + 1, RUN, heights[k], SIZE));
     for (int round = 0; round < 3; round++)
-        run_round(columns, round);
+        for (int k = 0; k < GOOD; k++) { /* column 1 is ahead: its frame comes early to the others */
+            if (round > 0)
+                must(sajowemi_column_close(&columns[k]));
+            send_to_others(columns, k);
+            take_lie(&columns[k], k, round);
+        }
     for (int k = 0; k < GOOD; k++) {
         struct sajowemi_holdings held;
+        must(sajowemi_column_close(&columns[k]));
         must(sajowemi_column_result(&columns[k], &held));
         printf("column %d believes:", k + 1);
         for (int of = 0; of < GOOD + BAD; of++)

@@ -16,19 +16,17 @@ const LIES: [[&[u8]; 3]; 3] = [
 ];
 const COMMANDS: [u8; 3] = [0x11, 0x22, 0x33];
 
-fn run_round(columns: &mut [Column], round: usize) -> Result<(), Refusal> {
-    let senders = columns.to_vec();
-    for (k, column) in columns.iter_mut().enumerate() {
-        for sender in senders
-            .iter()
-            .filter(|sender| sender.number() as usize != k + 1)
-        {
-            // On the air a refused frame is counted, and the column goes on.
-            column.take(sender.number(), sender.send(&mut [0; LONGEST_FRAME])?)?;
-        }
-        let lie = [&[COMMANDS[round], LIAR as u8, 0, RUN], LIES[round][k]].concat();
-        column.take(LIAR, &lie)?;
-        column.close()?;
+/// A column's frame of its round, to the other good ones: those that have not closed the round before keep it for the next.
+fn send_to_others(columns: &mut [Column], sender: usize) -> Result<(), Refusal> {
+    let number = columns[sender].number();
+    let mut buffer = [0; LONGEST_FRAME];
+    let frame = columns[sender].send(&mut buffer)?;
+    for column in columns
+        .iter_mut()
+        .filter(|column| column.number() != number)
+    {
+        // On the air a refused frame is counted, and the column goes on.
+        column.take(number, frame)?;
     }
     Ok(())
 }
@@ -40,9 +38,18 @@ fn main() -> Result<(), Refusal> {
         columns.push(Column::open(settings, number, RUN.into(), &[height])?);
     }
     for round in 0..3 {
-        run_round(&mut columns, round)?;
+        // Column 1 is ahead: its frame comes early to the others.
+        for k in 0..columns.len() {
+            if round > 0 {
+                columns[k].close()?;
+            }
+            send_to_others(&mut columns, k)?;
+            let lie = [&[COMMANDS[round], LIAR as u8, 0, RUN], LIES[round][k]].concat();
+            columns[k].take(LIAR, &lie)?;
+        }
     }
-    for column in &columns {
+    for column in &mut columns {
+        column.close()?;
         print!("column {} believes:", column.number());
         for (value, confidence) in column.result()?.all() {
             print!(" {}/{confidence}", value[0]);

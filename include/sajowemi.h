@@ -65,7 +65,7 @@ struct sajowemi_identity {
     uint8_t own[SAJOWEMI_VALUE_ROOM];
 };
 
-/* What came in from one sender: whether its frame of the round was taken, which any number but 0 says, and the frame. */
+/* What came in from one sender for a round: whether its frame was taken, which any number but 0 says, and the frame. */
 struct sajowemi_slot {
     uint8_t taken;
     uint8_t bytes[SAJOWEMI_LONGEST_FRAME];
@@ -80,11 +80,12 @@ struct sajowemi_findings {
     uint8_t confidences[SAJOWEMI_MOST_COLUMNS];
 };
 
-/* A column's record: who it is, what came in by slot, what it has found, its round, of which 4 is the end, and the count of refused
- * frames. */
+/* A column's record: who it is, what came in by slot, for its round and early, for the round that follows, what it has found, its round,
+ * of which 4 is the end, and the count of refused frames. */
 struct sajowemi_column {
     struct sajowemi_identity who;
     struct sajowemi_slot slots[SAJOWEMI_MOST_COLUMNS];
+    struct sajowemi_slot early[SAJOWEMI_MOST_COLUMNS];
     struct sajowemi_findings found;
     uint32_t round;
     uint32_t refused;
@@ -114,7 +115,8 @@ struct sajowemi_level {
 struct sajowemi_outcome sajowemi_open(uint32_t n, uint32_t t, uint32_t w, uint32_t number, uint16_t run, const uint8_t *own,
                                       size_t own_length);
 
-/* Takes the frame that came in slot k, which is column k's. Refused 1 to 4 or 6 to 15. */
+/* Takes the frame that came in slot k, which is column k's: one of the round, or one of the round that follows, which is kept and counts
+ * as taken when that round opens. Refused 1 to 4 or 6 to 15. */
 struct sajowemi_outcome sajowemi_take(struct sajowemi_column column, uint32_t slot, const uint8_t *frame, size_t frame_length);
 
 /* The bytes of the round's frame: 4 + w in round 1, 4 + 2 t w after. 0 where sending is refused for another reason than the buffer. */
@@ -123,7 +125,8 @@ uint32_t sajowemi_frame_size(struct sajowemi_column column);
 /* Writes the round's frame in front of the buffer. Refused 1 to 4, 6, 7 or 16. */
 uint32_t sajowemi_send(struct sajowemi_column column, uint8_t *buffer, size_t buffer_length);
 
-/* Closes the round. Refused 1 to 4, 6 or 7. */
+/* Closes the round. The next one opens with the frames that came early for it: their bytes are its slots, and nothing is early then.
+ * Refused 1 to 4, 6 or 7. */
 struct sajowemi_outcome sajowemi_close(struct sajowemi_column column);
 
 /* What a column in round 4 believes. Refused 1 to 4, 6 or 17, with zeros. */
@@ -197,8 +200,8 @@ static inline const char *sajowemi_says(uint32_t answer) {
     case SAJOWEMI_FRAME_LENGTH: return "the frame has not the length of its command";
     case SAJOWEMI_SENDER: return "the frame names another sender than its slot";
     case SAJOWEMI_RUN: return "the frame is of another run";
-    case SAJOWEMI_OTHER_ROUND: return "the frame is of another round";
-    case SAJOWEMI_REPEATED: return "this sender's frame of the round was taken before";
+    case SAJOWEMI_OTHER_ROUND: return "the frame is of a round that is closed, or two ahead";
+    case SAJOWEMI_REPEATED: return "this sender's frame of that round is there already";
     case SAJOWEMI_BUFFER_TOO_SHORT: return "the buffer is shorter than the frame";
     case SAJOWEMI_NOT_FINISHED: return "the column has not finished its three rounds";
     case SAJOWEMI_CODE_LENGTH: return "the vector or the checks have not their length, or the output is too short";

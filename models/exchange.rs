@@ -18,7 +18,10 @@ pub struct Model {
     pub own: Value,
     pub round: u32,
     pub refused: u32,
+    /// What came of each column in the round.
     pub operands: Vec<Option<Vec<u8>>>,
+    /// What came of each column for the round that follows.
+    pub early: Vec<Option<Vec<u8>>>,
     pub heard: Vec<Value>,
     pub agreed: Vec<Value>,
     pub held: Vec<(Value, u8)>,
@@ -26,7 +29,7 @@ pub struct Model {
 
 impl Model {
     pub fn open(n: u32, t: u32, w: u32, number: u32, run: u16, own: &[u8]) -> Model {
-        let operands = vec![None; n as usize];
+        let nothing = vec![None; n as usize];
         let (own, heard, agreed, held) = (own.to_vec(), vec![], vec![], vec![]);
         Model {
             n,
@@ -37,7 +40,8 @@ impl Model {
             own,
             round: 1,
             refused: 0,
-            operands,
+            operands: nothing.clone(),
+            early: nothing,
             heard,
             agreed,
             held,
@@ -54,7 +58,8 @@ impl Model {
             round,
             ..
         } = *self;
-        let taken = (1..=n).contains(&slot) && self.operands[slot as usize - 1].is_some();
+        let is_there =
+            |came: &[Option<Vec<u8>>]| (1..=n).contains(&slot) && came[slot as usize - 1].is_some();
         let case = Case {
             n,
             t,
@@ -65,12 +70,18 @@ impl Model {
             run,
             slot,
             frame,
-            taken,
+            taken: is_there(&self.operands),
+            early: is_there(&self.early),
             room: 0,
         };
         let answered = answer(Call::Take, &case);
         if answered == 0 {
-            self.operands[slot as usize - 1] = Some(frame[4..].to_vec());
+            let came = if frame[0] == command_of(round) {
+                &mut self.operands
+            } else {
+                &mut self.early
+            };
+            came[slot as usize - 1] = Some(frame[4..].to_vec());
         }
         self.refused = count_after(answered, self.refused);
         answered
@@ -112,7 +123,8 @@ impl Model {
             }
         }
         self.round += 1;
-        self.operands = vec![None; self.n as usize];
+        let nothing = vec![None; self.n as usize];
+        self.operands = std::mem::replace(&mut self.early, nothing);
     }
 
     fn blank(&self) -> Value {

@@ -2,6 +2,7 @@
 //! are 0. Refusals are those of the table, and what a closing finds is the other model's; here stands where it is written.
 
 use crate::exchange::{Model, Value};
+use crate::frames::command_of;
 use crate::refusals::{Call, Case, answer, count_after};
 
 /// Room in a record: columns, bytes of a value, bytes of a frame.
@@ -25,6 +26,7 @@ pub struct Record {
     pub run: u16,
     pub own: Vec<u8>,
     pub slots: Vec<Slot>,
+    pub early: Vec<Slot>,
     pub heard: Vec<u8>,
     pub agreed: Vec<u8>,
     pub values: Vec<u8>,
@@ -56,6 +58,7 @@ impl Record {
             run: 0,
             own: vec![0; VALUE],
             slots: empty_slots(),
+            early: empty_slots(),
             heard: vec![0; COLUMNS * VALUE],
             agreed: vec![0; COLUMNS * VALUE],
             values: vec![0; COLUMNS * VALUE],
@@ -95,7 +98,9 @@ impl Record {
 
     /// What a refusal may depend on.
     fn case<'a>(&'a self, slot: u32, frame: &'a [u8]) -> Case<'a> {
-        let slots = 1..=COLUMNS as u32;
+        let is_there = |slots: &[Slot]| {
+            (1..=COLUMNS as u32).contains(&slot) && slots[slot as usize - 1].taken != 0
+        };
         Case {
             n: self.n,
             t: self.t,
@@ -106,16 +111,23 @@ impl Record {
             run: self.run,
             slot,
             frame,
-            taken: slots.contains(&slot) && self.slots[slot as usize - 1].taken != 0,
+            taken: is_there(&self.slots),
+            early: is_there(&self.early),
             room: 0,
         }
     }
 
-    /// A frame that is taken stands in its slot, marked 1; one that is refused leaves nothing but the count.
+    /// A frame that is taken stands in its slot, marked 1, of the round or of the one that follows; one that is refused leaves nothing
+    /// but the count.
     pub fn take(&mut self, slot: u32, frame: &[u8]) -> u32 {
         let answered = answer(Call::Take, &self.case(slot, frame));
         if answered == 0 {
-            self.slots[slot as usize - 1] = Slot {
+            let slots = if frame[0] == command_of(self.round) {
+                &mut self.slots
+            } else {
+                &mut self.early
+            };
+            slots[slot as usize - 1] = Slot {
                 taken: 1,
                 bytes: padded(frame, FRAME),
             };
@@ -124,7 +136,7 @@ impl Record {
         answered
     }
 
-    /// Closing writes V, Y, or values and confidences, and empties every slot.
+    /// Closing writes V, Y, or values and confidences. Every slot has then what came early, whatever it is, and nothing is early any more.
     pub fn close(&mut self) -> u32 {
         let answered = answer(Call::Close, &self.case(0, &[]));
         if answered != 0 {
@@ -142,7 +154,7 @@ impl Record {
                 self.confidences = padded(&confidences, COLUMNS);
             }
         }
-        self.slots = empty_slots();
+        self.slots = std::mem::replace(&mut self.early, empty_slots());
         self.round += 1;
         0
     }
@@ -161,7 +173,8 @@ impl Record {
         )
     }
 
-    /// What the record says of a column whose settings pass: what stands behind n columns and w bytes says nothing.
+    /// What the record says of a column whose settings pass: what stands behind n columns and w bytes says nothing, and what came early
+    /// says nothing in this round.
     fn read(&self) -> Model {
         let (n, t, w) = (self.n as usize, self.t as usize, self.w as usize);
         let values = |bytes: &[u8]| bytes[..n * w].chunks(w).map(<[u8]>::to_vec).collect();
@@ -180,6 +193,7 @@ impl Record {
             round: self.round,
             refused: self.refused,
             operands: operands.collect(),
+            early: vec![None; n],
             heard: values(&self.heard),
             agreed: values(&self.agreed),
             held: vec![],

@@ -25,8 +25,16 @@ pub struct Case<'a> {
     pub run: u16,
     pub slot: u32,
     pub frame: &'a [u8],
+    /// Whether the frame of this slot's column is there: of the round, and of the round that follows.
     pub taken: bool,
+    pub early: bool,
     pub room: usize,
+}
+
+impl Case<'_> {
+    fn is_frame_of(&self, round: u32) -> bool {
+        self.frame[0] == command_of(round)
+    }
 }
 
 pub struct Line {
@@ -53,8 +61,8 @@ pub const LINES: &[Line] = &[
     Line { number: 11, concerns: &[Take], applies: |c| frame_length(c.frame[0], c.t, c.w) != Some(c.frame.len()) },
     Line { number: 12, concerns: &[Take], applies: |c| u32::from(c.frame[1]) != c.slot },
     Line { number: 13, concerns: &[Take], applies: |c| u16::from_be_bytes([c.frame[2], c.frame[3]]) != c.run },
-    Line { number: 14, concerns: &[Take], applies: |c| c.frame[0] != command_of(c.round) },
-    Line { number: 15, concerns: &[Take], applies: |c| c.taken },
+    Line { number: 14, concerns: &[Take], applies: |c| !c.is_frame_of(c.round) && !c.is_frame_of(c.round + 1) },
+    Line { number: 15, concerns: &[Take], applies: |c| if c.is_frame_of(c.round) { c.taken } else { c.early } },
     Line { number: 16, concerns: &[Send], applies: |c| Some(c.room) < frame_length(command_of(c.round), c.t, c.w) },
     Line { number: 17, concerns: &[Result], applies: |c| c.round != 4 },
 ];

@@ -67,8 +67,10 @@ static struct sajowemi_column made_by_hand(void) {
         column.who.number = 1 + below(column.who.n);
         column.round = 1 + below(4);
     }
-    for (size_t k = 0; k < SAJOWEMI_MOST_COLUMNS; k++)
+    for (size_t k = 0; k < SAJOWEMI_MOST_COLUMNS; k++) {
         column.slots[k].taken *= below(2);
+        column.early[k].taken *= below(2);
+    }
     return column;
 }
 
@@ -81,17 +83,18 @@ static void opened(const struct sajowemi_column *column) {
     is_record(&place, &outcome.column);
 }
 
-/* A frame that is mostly the round's, in a slot that is mostly one of the group's. */
+/* A frame of the round or of the one that follows, mostly, in a slot that is mostly one of the group's. */
 static void taken(const struct sajowemi_column *column) {
     uint8_t frame[ROOM];
     uint32_t slot = column->who.n < 33 ? 1 + below(column->who.n + 1) : drawn();
-    size_t size = column->round == 1 ? 4 + column->who.w : 4 + 2 * column->who.t * column->who.w;
+    uint32_t round = column->round + below(2);
+    size_t size = round == 1 ? 4 + column->who.w : 4 + 2 * column->who.t * column->who.w;
     size_t length = below(8) && size <= ROOM ? size : below(ROOM + 1);
     struct guarded place = guarded(column);
     struct sajowemi_outcome outcome;
 
     draw(frame, sizeof frame);
-    frame[0] = (uint8_t)(0x11 * column->round);
+    frame[0] = (uint8_t)(0x11 * round);
     frame[1] = (uint8_t)slot;
     if (below(8)) {
         frame[2] = (uint8_t)(column->who.run >> 8);

@@ -25,18 +25,19 @@ STANDS(sajowemi_findings, heard, 0);
 STANDS(sajowemi_findings, agreed, 256);
 STANDS(sajowemi_findings, values, 512);
 STANDS(sajowemi_findings, confidences, 768);
-SIZE(sajowemi_column, 6116);
+SIZE(sajowemi_column, 11396);
 _Static_assert(_Alignof(struct sajowemi_column) == 4, "alignment");
 STANDS(sajowemi_column, who, 0);
 STANDS(sajowemi_column, slots, 28);
-STANDS(sajowemi_column, found, 5308);
-STANDS(sajowemi_column, found.heard, 5308);
-STANDS(sajowemi_column, found.agreed, 5564);
-STANDS(sajowemi_column, found.values, 5820);
-STANDS(sajowemi_column, found.confidences, 6076);
-STANDS(sajowemi_column, round, 6108);
-STANDS(sajowemi_column, refused, 6112);
-SIZE(sajowemi_outcome, 6120);
+STANDS(sajowemi_column, early, 5308);
+STANDS(sajowemi_column, found, 10588);
+STANDS(sajowemi_column, found.heard, 10588);
+STANDS(sajowemi_column, found.agreed, 10844);
+STANDS(sajowemi_column, found.values, 11100);
+STANDS(sajowemi_column, found.confidences, 11356);
+STANDS(sajowemi_column, round, 11388);
+STANDS(sajowemi_column, refused, 11392);
+SIZE(sajowemi_outcome, 11400);
 STANDS(sajowemi_outcome, answer, 0);
 STANDS(sajowemi_outcome, column, 4);
 SIZE(sajowemi_holdings, 292);
@@ -54,15 +55,16 @@ static uint32_t number_at(const struct sajowemi_column *column, size_t at) {
     return number;
 }
 
-/* Opening, taking and refusing write each field where the numbers above say. */
+/* Opening, taking, refusing and closing write each field where the numbers above say. */
 static void written(void) {
     const uint8_t own[] = {61, 62, 63};
     const uint8_t frame[] = {0x11, 4, 0x12, 0x34, 71, 72, 73};
-    const size_t at[] = {0, 4, 8, 12, 6108, 6112};
+    const uint8_t checks[] = {0x22, 4, 0x12, 0x34, 1, 2, 3, 4, 5, 6, 7, 8, 9, 10, 11, 12};
+    const size_t at[] = {0, 4, 8, 12, 11388, 11392};
     const uint32_t expected[] = {7, 2, 3, 5, 1, 0};
     struct sajowemi_outcome outcome = sajowemi_open(7, 2, 3, 5, 0x1234, own, 3);
     const uint8_t *bytes = (const uint8_t *)&outcome.column;
-    const size_t slot = 28 + 3 * 165;
+    const size_t slot = 28 + 3 * 165, early = 5308 + 3 * 165;
 
     assert(outcome.answer == SAJOWEMI_DONE);
     for (size_t k = 0; k < 6; k++)
@@ -72,11 +74,16 @@ static void written(void) {
     outcome = sajowemi_take(outcome.column, 4, frame, sizeof frame);
     assert(outcome.answer == SAJOWEMI_DONE);
     assert(bytes[slot] == 1 && memcmp(bytes + slot + 1, frame, sizeof frame) == 0);
+    outcome = sajowemi_take(outcome.column, 4, checks, sizeof checks);
+    assert(outcome.answer == SAJOWEMI_DONE);
+    assert(bytes[early] == 1 && memcmp(bytes + early + 1, checks, sizeof checks) == 0);
+    assert(memcmp(bytes + slot + 1, frame, sizeof frame) == 0);
     outcome = sajowemi_take(outcome.column, 4, frame, sizeof frame);
-    assert(outcome.answer == SAJOWEMI_REPEATED && number_at(&outcome.column, 6112) == 1);
+    assert(outcome.answer == SAJOWEMI_REPEATED && number_at(&outcome.column, 11392) == 1);
     outcome = sajowemi_close(outcome.column);
-    assert(outcome.answer == SAJOWEMI_DONE && number_at(&outcome.column, 6108) == 2);
-    assert(memcmp(bytes + 5308 + 9, frame + 4, 3) == 0 && memcmp(bytes + 5308 + 12, own, 3) == 0);
+    assert(outcome.answer == SAJOWEMI_DONE && number_at(&outcome.column, 11388) == 2);
+    assert(memcmp(bytes + 10588 + 9, frame + 4, 3) == 0 && memcmp(bytes + 10588 + 12, own, 3) == 0);
+    assert(bytes[slot] == 1 && memcmp(bytes + slot + 1, checks, sizeof checks) == 0 && bytes[early] == 0);
 }
 
 /* Sending and asking read each field where the numbers above say. */
@@ -91,12 +98,12 @@ static void read(void) {
     assert(sajowemi_send(column, frame, sizeof frame) == SAJOWEMI_DONE);
     assert(memcmp(frame, expected, sizeof frame) == 0);
     column.round = 4;
-    for (size_t at = 5820; at < 6108; at++)
+    for (size_t at = 11100; at < 11388; at++)
         bytes[at] = (uint8_t)at;
     held = sajowemi_result(column);
     assert(held.answer == SAJOWEMI_DONE);
-    assert(memcmp(held.values, bytes + 5820, 21) == 0);
-    assert(memcmp(held.confidences, bytes + 6076, 7) == 0);
+    assert(memcmp(held.values, bytes + 11100, 21) == 0);
+    assert(memcmp(held.confidences, bytes + 11356, 7) == 0);
 }
 
 /* A column alone ends with its own value: Y is written in round two, values and confidences in round three. */
@@ -107,8 +114,8 @@ static void ended(void) {
 
     for (int round = 1; round <= 3; round++)
         column = sajowemi_close(column).column;
-    assert(memcmp(bytes + 5308, own, 2) == 0 && memcmp(bytes + 5564, own, 2) == 0);
-    assert(memcmp(bytes + 5820, own, 2) == 0 && bytes[6076] == 2);
+    assert(memcmp(bytes + 10588, own, 2) == 0 && memcmp(bytes + 10844, own, 2) == 0);
+    assert(memcmp(bytes + 11100, own, 2) == 0 && bytes[11356] == 2);
 }
 
 /* Two columns at -5 and -2 tenths: the level is -4, and column 1 goes up by one. */

@@ -20,12 +20,12 @@ const _: () = {
     assert!(size_of::<Findings>() == 800 && align_of::<Findings>() == 1);
     assert!(offset_of!(Findings, heard) == 0 && offset_of!(Findings, agreed) == 256);
     assert!(offset_of!(Findings, values) == 512 && offset_of!(Findings, confidences) == 768);
-    assert!(size_of::<Column>() == 6116 && align_of::<Column>() == 4);
+    assert!(size_of::<Column>() == 11396 && align_of::<Column>() == 4);
     assert!(offset_of!(Column, who) == 0 && offset_of!(Column, slots) == 28);
-    assert!(offset_of!(Column, found) == 5308);
-    assert!(offset_of!(Column, round) == 6108 && offset_of!(Column, refused) == 6112);
+    assert!(offset_of!(Column, early) == 5308 && offset_of!(Column, found) == 10588);
+    assert!(offset_of!(Column, round) == 11388 && offset_of!(Column, refused) == 11392);
     assert!(
-        size_of::<Outcome>() == 6120
+        size_of::<Outcome>() == 11400
             && offset_of!(Outcome, answer) == 0
             && offset_of!(Outcome, column) == 4
     );
@@ -39,13 +39,13 @@ fn number_at(column: &Column, at: usize) -> u32 {
     u32::from_ne_bytes(bytes_at(column, at, at + 4).try_into().unwrap())
 }
 
-/// Opening, taking and refusing write each field where the numbers above say.
+/// Opening, taking, refusing and closing write each field where the numbers above say.
 fn written() {
     let opened = archive::open(7, 2, 3, 5, 0x1234, &[61, 62, 63]);
     let column = opened.column;
     assert_eq!(opened.answer, 0);
     assert_eq!(
-        [0, 4, 8, 12, 6108, 6112].map(|at| number_at(&column, at)),
+        [0, 4, 8, 12, 11388, 11392].map(|at| number_at(&column, at)),
         [7, 2, 3, 5, 1, 0]
     );
     assert_eq!(bytes_at(&column, 16, 18), 0x1234u16.to_ne_bytes());
@@ -55,13 +55,25 @@ fn written() {
     let slot = 28 + 3 * 165;
     assert_eq!(bytes_at(&taken, slot, slot + 1), [1]);
     assert_eq!(bytes_at(&taken, slot + 1, slot + 8), frame);
-    assert_eq!(number_at(&archive::take(&taken, 4, &frame).column, 6112), 1);
-    let heard = archive::close(&taken).column;
-    assert_eq!(number_at(&heard, 6108), 2);
     assert_eq!(
-        bytes_at(&heard, 5308 + 9, 5308 + 15),
+        number_at(&archive::take(&taken, 4, &frame).column, 11392),
+        1
+    );
+    let checks = [0x22, 4, 0x12, 0x34, 1, 2, 3, 4, 5, 6, 7, 8, 9, 10, 11, 12];
+    let ahead = archive::take(&taken, 4, &checks).column;
+    let early = 5308 + 3 * 165;
+    assert_eq!(bytes_at(&ahead, early, early + 1), [1]);
+    assert_eq!(bytes_at(&ahead, early + 1, early + 17), checks);
+    assert_eq!(bytes_at(&ahead, slot + 1, slot + 8), frame);
+    let heard = archive::close(&ahead).column;
+    assert_eq!(number_at(&heard, 11388), 2);
+    assert_eq!(
+        bytes_at(&heard, 10588 + 9, 10588 + 15),
         [71, 72, 73, 61, 62, 63]
     );
+    assert_eq!(bytes_at(&heard, slot, slot + 1), [1]);
+    assert_eq!(bytes_at(&heard, slot + 1, slot + 17), checks);
+    assert_eq!(bytes_at(&heard, early, early + 1), [0]);
 }
 
 /// Sending and asking read each field where the numbers above say.
@@ -71,13 +83,16 @@ fn read() {
     assert_eq!(archive::send(&column, &mut frame), 0);
     assert_eq!(frame, [0x11, 5, 0x12, 0x34, 61, 62, 63]);
     column.round = 4;
-    for (k, byte) in bytes_at_mut(&mut column, 5820, 6108).iter_mut().enumerate() {
+    for (k, byte) in bytes_at_mut(&mut column, 11100, 11388)
+        .iter_mut()
+        .enumerate()
+    {
         *byte = k as u8 ^ 0x5a;
     }
     let held = archive::result(&column);
     assert_eq!(held.answer, 0);
-    assert_eq!(held.values[..21], *bytes_at(&column, 5820, 5841));
-    assert_eq!(held.confidences[..7], *bytes_at(&column, 6076, 6083));
+    assert_eq!(held.values[..21], *bytes_at(&column, 11100, 11121));
+    assert_eq!(held.confidences[..7], *bytes_at(&column, 11356, 11363));
 }
 
 /// A column alone ends with its own value: Y is written in round two, values and confidences in round three.
@@ -86,10 +101,10 @@ fn ended() {
     for _ in 0..3 {
         column = archive::close(&column).column;
     }
-    for at in [5308, 5564, 5820] {
+    for at in [10588, 10844, 11100] {
         assert_eq!(bytes_at(&column, at, at + 2), [8, 7]);
     }
-    assert_eq!(bytes_at(&column, 6076, 6077), [2]);
+    assert_eq!(bytes_at(&column, 11356, 11357), [2]);
 }
 
 /// Two columns at -5 and -2 tenths: the level is -4, and column 1 goes up by one.

@@ -40,7 +40,7 @@ static struct sajowemi_column opened(struct settings s, size_t length) {
     return outcome.column;
 }
 
-/* A frame of a length, from column n to column 1: taken where the command is the round's and the length the command's. */
+/* A frame of a length, from column n to column 1: taken where the command is that of the round or the next, and the length its own. */
 static void take(struct settings s, struct sajowemi_column column, uint8_t command, size_t length) {
     const uint8_t header[4] = {command, (uint8_t)s.n, RUN >> 8, RUN & 255};
     size_t right = 4 + (command == 0x11 ? 1 : 2 * s.t) * s.w;
@@ -60,8 +60,10 @@ static void take(struct settings s, struct sajowemi_column column, uint8_t comma
         assert(outcome.answer == SAJOWEMI_COMMAND);
     else if (length != right)
         assert(outcome.answer == SAJOWEMI_FRAME_LENGTH);
+    else if (command == 0x11 * column.round || command == 0x11 * (column.round + 1))
+        assert(outcome.answer == SAJOWEMI_DONE);
     else
-        assert(outcome.answer == (command == 0x11 * column.round ? SAJOWEMI_DONE : SAJOWEMI_OTHER_ROUND));
+        assert(outcome.answer == SAJOWEMI_OTHER_ROUND);
     free(frame);
 }
 

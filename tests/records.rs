@@ -38,7 +38,10 @@ fn laid_out(record: &Record) -> Column {
         taken: slot.taken,
         bytes: slot.bytes[..].try_into().unwrap(),
     };
-    let slots: Vec<Slot> = record.slots.iter().map(slot).collect();
+    let slots = |slots: &[model::Slot]| -> [Slot; 32] {
+        let slots: Vec<Slot> = slots.iter().map(slot).collect();
+        slots.try_into().unwrap_or_else(|_| panic!("32 slots"))
+    };
     Column {
         who: Identity {
             n: record.n,
@@ -48,7 +51,8 @@ fn laid_out(record: &Record) -> Column {
             run: record.run,
             own: record.own[..].try_into().unwrap(),
         },
-        slots: slots.try_into().unwrap_or_else(|_| panic!("32 slots")),
+        slots: slots(&record.slots),
+        early: slots(&record.early),
         found: Findings {
             heard: record.heard[..].try_into().unwrap(),
             agreed: record.agreed[..].try_into().unwrap(),
@@ -82,6 +86,7 @@ fn read(column: &Column) -> Record {
         run,
         own: own.to_vec(),
         slots: column.slots.iter().map(slot).collect(),
+        early: column.early.iter().map(slot).collect(),
         heard: column.found.heard.to_vec(),
         agreed: column.found.agreed.to_vec(),
         values: column.found.values.to_vec(),
@@ -162,23 +167,22 @@ fn made_by_hand(chance: &mut Chance, rounds: u64) -> Column {
     who.number = 1 + chance.below(who.n.into()) as u32;
     who.own[0] |= 1;
     column.round = 1 + chance.below(rounds) as u32;
-    for slot in &mut column.slots {
+    for slot in column.slots.iter_mut().chain(&mut column.early) {
         slot.taken *= u8::from(!chance.one_in(3));
     }
     column
 }
 
-fn frames(chance: &mut Chance) -> u32 {
-    let mut taken = 0;
+/// Frames of the round, of the one that follows, and of any; answers how many were taken, and how many of these early.
+fn frames(chance: &mut Chance) -> (u32, u32) {
+    let (mut taken, mut early) = (0, 0);
     for _ in 0..FRAMES {
         let column = made_by_hand(chance, 4);
         let Identity { n, t, w, run, .. } = column.who;
         let slot = 1 + chance.below(u64::from(n) + 1) as u32;
-        let command = if chance.one_in(8) {
-            0x22
-        } else {
-            command_of(column.round)
-        };
+        let any = 1 + chance.below(3) as u32;
+        let round = chance.pick(&[column.round, column.round, column.round + 1, any]);
+        let command = command_of(round);
         let size = frame_length(command, t, w).unwrap_or(4);
         let mut operand = vec![0; size - 4 + usize::from(chance.one_in(16))];
         chance.fill(&mut operand);
@@ -192,11 +196,13 @@ fn frames(chance: &mut Chance) -> u32 {
             &model,
         );
         taken += u32::from(answer == 0);
+        early += u32::from(answer == 0 && round > column.round);
     }
-    taken
+    (taken, early)
 }
 
-/// Checks of vectors near the record's own in some of the slots, which random bits alone would not make.
+/// Checks of vectors near the record's own in some of the slots, which random bits alone would not make. Those that came early would count
+/// as well, were they taken for the round's.
 fn put_checks(chance: &mut Chance, column: &mut Column) {
     let Identity { n, t, w, .. } = column.who;
     let (n, t, w) = (n as usize, t as usize, w as usize);
@@ -222,7 +228,7 @@ fn put_checks(chance: &mut Chance, column: &mut Column) {
         division::check_values(&shared, t, w),
     );
     let random = 1 + chance.below(8);
-    for slot in &mut column.slots[..n] {
+    for slot in column.slots[..n].iter_mut().chain(&mut column.early[..n]) {
         if !chance.one_in(random + 1) {
             let checks = if chance.one_in(2) { &agreeing } else { &shared };
             slot.bytes[4..4 + checks.len()].copy_from_slice(checks);
@@ -269,11 +275,11 @@ fn results(chance: &mut Chance) {
 fn main() {
     let mut chance = Chance::new(5);
     openings(&mut chance);
-    let taken = frames(&mut chance);
+    let (taken, early) = frames(&mut chance);
     let found = closings(&mut chance);
     results(&mut chance);
     println!(
-        "records: to the byte as the model has them: {OPENINGS} openings, {FRAMES} frames, {taken} of them taken, {CLOSINGS} closings, \
-         {found} of them with something found, {RESULTS} results"
+        "records: to the byte as the model has them: {OPENINGS} openings, {FRAMES} frames, {taken} of them taken, {early} of these early, \
+         {CLOSINGS} closings, {found} of them with something found, {RESULTS} results"
     );
 }

@@ -1,6 +1,6 @@
-//! Whole groups in random schedules: frames lost, repeated, late, foreign and damaged, and liars that split the group. Each column is driven
-//! beside a model of it, and both are compared at every step. Where at most t columns are bad and every good frame is handed in its
-//! round, the three promises about what good columns believe are asserted too.
+//! Whole groups in random schedules: columns at their own pace, frames lost, repeated, early, late, foreign and damaged, and liars that
+//! split the group. Each column is driven beside a model of it, and both are compared at every step. Where at most t columns are bad and
+//! every good frame is handed in its round or in the one before, the three promises about what good columns believe are asserted too.
 
 #[path = "../rust/src/archive.rs"]
 mod archive;
@@ -22,11 +22,22 @@ use chance::Chance;
 use exchange::{Model, Value, agree};
 use frames::{command_of, frame};
 
-/// A good column: the library's record and the model's.
-#[derive(Clone)]
+/// A slot and the frame that comes in it.
+type Event = (u32, Vec<u8>);
+
+/// An event in the list of a reader's calls: the reader's round then, and the answer.
+struct Handed {
+    round: u32,
+    event: Event,
+    answer: u32,
+}
+
+/// A good column: the library's record and the model's, its frames of the rounds it has reached, and all that it was handed.
 struct Pair {
     column: Column,
     model: Model,
+    sent: Vec<Event>,
+    handed: Vec<Handed>,
 }
 
 /// A group: its good columns, and the numbers of the bad ones.
@@ -39,11 +50,11 @@ struct Group {
     bad: Vec<u32>,
     /// The value that all liars would have the group believe of them, by some readers and not by others.
     plot: Value,
-    /// Every good frame is handed in its round, and a good column's slot has no other frames of the run.
+    /// A good column waits for every good frame of its round, and the slots of good columns have nothing else of the run.
     reliable: bool,
+    /// No good frame is handed before its round.
+    in_step: bool,
 }
-
-type Event = (u32, Vec<u8>);
 
 /// A value that is not blank, mostly out of a few, so that values meet.
 fn value(chance: &mut Chance, w: u32) -> Value {
@@ -81,16 +92,21 @@ fn group(chance: &mut Chance, n: u32, t: u32, w: u32) -> Group {
         bad,
         plot: value(chance, w),
         reliable: !chance.one_in(4),
+        in_step: chance.one_in(4),
     }
 }
 
 fn pair(n: u32, t: u32, w: u32, number: u32, run: u16, own: &[u8]) -> Pair {
     let opened = archive::open(n, t, w, number, run, own);
     assert_eq!(opened.answer, 0, "opening");
-    Pair {
+    let mut pair = Pair {
         column: opened.column,
         model: Model::open(n, t, w, number, run, own),
-    }
+        sent: vec![],
+        handed: vec![],
+    };
+    pair.send();
+    pair
 }
 
 fn shuffle<T>(chance: &mut Chance, list: &mut [T]) {
@@ -100,7 +116,7 @@ fn shuffle<T>(chance: &mut Chance, list: &mut [T]) {
 }
 
 impl Group {
-    /// A liar's operand for one reader: the plot, or whatever comes.
+    /// A liar's operand for one reader in its round: the plot, or whatever comes.
     fn lie(&self, chance: &mut Chance, reader: &Model) -> Vec<u8> {
         let plotting = !chance.one_in(3);
         match (reader.round, plotting) {
@@ -114,11 +130,7 @@ impl Group {
 
     /// The vector that a good column could have, were the liars' values the plot.
     fn plotted(&self, reader: &Model) -> Vec<Value> {
-        let mut vector = if reader.round == 2 {
-            reader.heard.clone()
-        } else {
-            reader.agreed.clone()
-        };
+        let mut vector = vector_of(reader, reader.round);
         for &k in &self.bad {
             vector[k as usize - 1] = self.plot.clone();
         }
@@ -127,12 +139,10 @@ impl Group {
 
     /// The checks of a vector near some good column's, mostly.
     fn any_checks(&self, chance: &mut Chance, reader: &Model) -> Vec<u8> {
-        let whose = &self.good[chance.below(self.good.len() as u64) as usize].model;
-        let mut vector = if reader.round == 2 {
-            whose.heard.clone()
-        } else {
-            whose.agreed.clone()
-        };
+        let good = self.good.iter().map(|column| &column.model);
+        let mut there: Vec<&Model> = good.filter(|model| model.round >= reader.round).collect();
+        there.push(reader);
+        let mut vector = vector_of(chance.pick(&there), reader.round);
         for _ in 0..chance.below(u64::from(self.t) + 2) {
             let k = chance.below(self.n.into()) as usize;
             vector[k] = if chance.one_in(3) {
@@ -152,57 +162,68 @@ impl Group {
         checks
     }
 
-    /// What a reader is handed in a round, in a random order.
-    fn events(
-        &self,
-        chance: &mut Chance,
-        reader: &Model,
-        frames: &[Event],
-        late: &[Event],
-    ) -> Vec<Event> {
+    /// What a reader is handed at a time, in a random order.
+    fn events(&self, chance: &mut Chance, reader: &Pair) -> Vec<Event> {
         let mut events = Vec::new();
-        for event in frames.iter().filter(|(slot, _)| *slot != reader.number) {
-            if self.reliable || !chance.one_in(5) {
+        for (round, event) in self.frames_for(reader) {
+            if self.in_step && round > reader.model.round {
+                continue;
+            }
+            let is_new = reader.handed.iter().all(|handed| handed.event != *event);
+            if chance.one_in(if is_new { 2 } else { 8 }) {
                 events.push(event.clone());
             }
-            if chance.one_in(8) {
-                events.push(event.clone());
-            }
-            if chance.one_in(6) {
+            if chance.one_in(16) {
                 events.push(self.harmless(chance, event));
             }
-            if !self.reliable && chance.one_in(6) {
+            if !self.reliable && chance.one_in(16) {
                 events.push(damaged(chance, event));
             }
         }
-        events.extend(late.iter().filter(|_| chance.one_in(8)).cloned());
         for &slot in &self.bad {
-            for _ in 0..chance.pick(&[0, 1, 1, 1, 1, 2]) {
-                let command = command_of(if chance.one_in(12) {
-                    1 + chance.below(3) as u32
-                } else {
-                    reader.round
-                });
-                let lie = (
-                    slot,
-                    frame(command, slot as u8, self.run, &self.lie(chance, reader)),
-                );
-                events.push(if chance.one_in(12) {
-                    damaged(chance, &lie)
-                } else {
-                    lie
-                });
+            if chance.one_in(2) {
+                events.push(self.lie_in(chance, slot, &reader.model));
             }
         }
         events.push((chance.below(40) as u32, vec![0x11, 1, 0, 0]));
         if self.reliable {
-            let own = |event: &Event| frames.contains(event) || late.contains(event);
-            events.retain(|event| {
-                self.bad.contains(&event.0) || self.is_foreign(&event.1) || own(event)
-            });
+            events.retain(|event| self.is_fair(event));
         }
         shuffle(chance, &mut events);
         events
+    }
+
+    /// The frames that the other good columns have sent, each with its round.
+    fn frames_for(&self, reader: &Pair) -> impl Iterator<Item = (u32, &Event)> {
+        let number = reader.model.number;
+        let others = self
+            .good
+            .iter()
+            .filter(move |sender| sender.model.number != number);
+        others.flat_map(|sender| (1..).zip(&sender.sent))
+    }
+
+    /// A liar's frame for a reader's round or for the one that follows, as if the reader closed now; at times with another command.
+    fn lie_in(&self, chance: &mut Chance, slot: u32, reader: &Model) -> Event {
+        let mut reader = reader.clone();
+        if reader.round < 3 && chance.one_in(3) {
+            reader.close();
+        }
+        let round = if chance.one_in(12) {
+            1 + chance.below(3) as u32
+        } else {
+            reader.round
+        };
+        let operand = self.lie(chance, &reader);
+        let lie = (
+            slot,
+            frame(command_of(round), slot as u8, self.run, &operand),
+        );
+        if chance.one_in(12) {
+            damaged(chance, &lie)
+        } else {
+            lie
+        }
     }
 
     /// A frame of another run, or one cut below its header, in a good column's slot.
@@ -221,25 +242,55 @@ impl Group {
         frame.len() < 4 || frame[2..4] != self.run.to_be_bytes()
     }
 
-    /// One round of all good columns.
-    fn round(&mut self, chance: &mut Chance, late: &mut Vec<Event>) -> u64 {
-        let frames: Vec<Event> = self
+    /// Whether the promises bear it: in a good column's slot come its own frames, at any time, and frames of another run or of none; in
+    /// other slots anything.
+    fn is_fair(&self, event: &Event) -> bool {
+        let good = self
             .good
             .iter()
-            .map(|sender| (sender.model.number, sender.sent()))
+            .find(|column| column.model.number == event.0);
+        good.is_none_or(|column| column.sent.contains(event) || self.is_foreign(&event.1))
+    }
+
+    /// Any good column that has not finished, so that each goes at its own pace.
+    fn next_reader(&self, chance: &mut Chance) -> Option<usize> {
+        let readers: Vec<usize> = (0..self.good.len())
+            .filter(|k| self.good[*k].model.round < 4)
             .collect();
-        let mut handed = 0;
-        for k in 0..self.good.len() {
-            let mut reader = self.good[k].clone();
-            for (slot, frame) in self.events(chance, &reader.model, &frames, late) {
-                reader.take(slot, &frame);
-                handed += 1;
-            }
-            reader.close();
-            self.good[k] = reader;
+        (!readers.is_empty()).then(|| chance.pick(&readers))
+    }
+
+    /// A reader's turn: it is handed something, and closes its round or waits for more.
+    fn turn(&mut self, chance: &mut Chance, k: usize) {
+        for event in self.events(chance, &self.good[k]) {
+            self.good[k].take(event);
         }
-        *late = frames;
-        handed
+        let may_close = !self.reliable || self.has_all(&self.good[k]);
+        if may_close && chance.one_in(2) {
+            self.good[k].close();
+        }
+    }
+
+    /// Whether every good frame of the reader's round was handed to it.
+    fn has_all(&self, reader: &Pair) -> bool {
+        let round = reader.model.round;
+        let handed = self
+            .frames_for(reader)
+            .filter(|(of, frame)| *of == round && reader.was_handed(frame, round, 1));
+        handed.count() == self.good.len() - 1
+    }
+
+    /// Whether every good frame was handed to every other good column in its round or at most so many rounds before, and nothing was handed
+    /// that the promises do not bear.
+    fn is_in_time(&self, ahead: u32) -> bool {
+        self.good.iter().all(|reader| {
+            let mut frames = self.frames_for(reader);
+            frames.all(|(round, frame)| reader.was_handed(frame, round, ahead))
+                && reader
+                    .handed
+                    .iter()
+                    .all(|handed| self.is_fair(&handed.event))
+        })
     }
 
     /// The three promises; answers how many pairs of beliefs were compared, and how many of these differ in confidence.
@@ -270,6 +321,15 @@ impl Group {
     }
 }
 
+/// The vector whose checks a column sends in a round.
+fn vector_of(column: &Model, round: u32) -> Vec<Value> {
+    if round == 2 {
+        column.heard.clone()
+    } else {
+        column.agreed.clone()
+    }
+}
+
 fn damaged(chance: &mut Chance, (slot, frame): &Event) -> Event {
     let mut other = frame.clone();
     let at = chance.below(other.len() as u64) as usize;
@@ -283,8 +343,8 @@ fn damaged(chance: &mut Chance, (slot, frame): &Event) -> Event {
 }
 
 impl Pair {
-    /// The library's frame of the round, which is the model's.
-    fn sent(&self) -> Vec<u8> {
+    /// Sends the library's frame of the round, which is the model's.
+    fn send(&mut self) {
         let frame = self.model.frame();
         let mut buffer = [0x5a; 170];
         assert_eq!(archive::send(&self.column, &mut buffer), 0, "sending");
@@ -298,18 +358,39 @@ impl Pair {
             buffer[frame.len()..].iter().all(|byte| *byte == 0x5a),
             "bytes after the frame"
         );
-        frame
+        self.sent.push((self.model.number, frame));
     }
 
-    fn take(&mut self, slot: u32, frame: &[u8]) {
-        let outcome = archive::take(&self.column, slot, frame);
+    fn take(&mut self, event: Event) {
+        let (slot, frame) = &event;
+        let (round, answer) = (self.model.round, self.model.take(*slot, frame));
+        let outcome = archive::take(&self.column, *slot, frame);
         assert_eq!(
-            outcome.answer,
-            self.model.take(slot, frame),
-            "taking {frame:?} in slot {slot}"
+            outcome.answer, answer,
+            "taking {frame:?} in slot {slot} in round {round}"
         );
         self.column = outcome.column;
         self.compare();
+        self.handed.push(Handed {
+            round,
+            event,
+            answer,
+        });
+    }
+
+    /// Whether a frame of a round was handed in it, or at most so many rounds before.
+    fn was_handed(&self, frame: &Event, of: u32, ahead: u32) -> bool {
+        self.handed.iter().any(|handed| {
+            handed.event == *frame && (handed.round..=handed.round + ahead).contains(&of)
+        })
+    }
+
+    /// How many frames of the round that follows were taken.
+    fn taken_early(&self) -> usize {
+        let early = |handed: &&Handed| {
+            handed.answer == 0 && handed.event.1[0] == command_of(handed.round + 1)
+        };
+        self.handed.iter().filter(early).count()
     }
 
     fn close(&mut self) {
@@ -318,18 +399,23 @@ impl Pair {
         self.column = outcome.column;
         self.model.close();
         self.compare();
+        if self.model.round < 4 {
+            self.send();
+        }
     }
 
     /// The record says what the model says.
     fn compare(&self) {
-        let Pair { column, model } = self;
+        let Pair { column, model, .. } = self;
         let size = (model.n * model.w) as usize;
         assert_eq!(
             (column.round, column.refused),
             (model.round, model.refused),
             "round and refused count"
         );
-        for (slot, operand) in column.slots.iter().zip(&model.operands) {
+        let slots = column.slots.iter().zip(&model.operands);
+        let early = column.early.iter().zip(&model.early);
+        for (slot, operand) in slots.chain(early) {
             assert_eq!(slot.taken != 0, operand.is_some(), "a slot's mark");
             assert!(
                 operand
@@ -371,23 +457,33 @@ fn main() {
         (32, 10, 1, 3),
     ];
     let mut chance = Chance::new(2);
-    let (mut groups, mut handed, mut promised, mut beliefs, mut apart) = (0, 0, 0, 0, 0);
+    let (mut groups, mut handed, mut early) = (0, 0, 0);
+    let (mut promised, mut only_early, mut beliefs, mut apart) = (0, 0, 0, 0);
     for (n, t, w, count) in SETTINGS {
         for _ in 0..count {
             let mut group = group(&mut chance, n, t, w);
-            let mut late = Vec::new();
-            for _ in 1..=3 {
-                handed += group.round(&mut chance, &mut late);
+            while let Some(k) = group.next_reader(&mut chance) {
+                group.turn(&mut chance, k);
             }
             groups += 1;
-            if group.reliable && group.bad.len() <= t as usize {
+            for column in &group.good {
+                handed += column.handed.len();
+                early += column.taken_early();
+            }
+            let in_time = group.is_in_time(1);
+            assert!(in_time || !group.reliable, "a reliable group");
+            if in_time && group.bad.len() <= t as usize {
                 let (compared, differing) = group.promises();
                 (promised, beliefs, apart) = (promised + 1, beliefs + compared, apart + differing);
+                only_early += u32::from(!group.is_in_time(0));
             }
         }
     }
-    println!("schedules: {groups} groups and {handed} frames as the model says");
     println!(
-        "schedules: the promises hold in {promised} of them, for {beliefs} pairs of beliefs, {apart} of these one confidence apart"
+        "schedules: {groups} groups and {handed} frames as the model says, {early} of them taken early"
+    );
+    println!(
+        "schedules: the promises hold in {promised} of the groups, in {only_early} of them only through early frames, for {beliefs} pairs \
+         of beliefs, {apart} of these one confidence apart"
     );
 }

@@ -121,8 +121,10 @@ fn refusals() {
     assert_eq!(frame_refusal(2, &[17, 2, 0, 7]), 11);
     assert_eq!(frame_refusal(2, &[17, 3, 0, 7, 5]), 12);
     assert_eq!(frame_refusal(2, &[17, 2, 7, 0, 5]), 13);
-    assert_eq!(frame_refusal(2, &[34, 2, 0, 7, 5, 5]), 14);
-    assert_eq!(column.refused(), 6);
+    assert_eq!(frame_refusal(2, &[51, 2, 0, 7, 5, 5]), 14);
+    assert_eq!(frame_refusal(2, &[34, 2, 0, 7, 5, 5]), 0);
+    assert_eq!(frame_refusal(2, &[34, 2, 0, 7, 6, 6]), 15);
+    assert_eq!(column.refused(), 7);
     assert_eq!(column.send(&mut [0; 4]), Err(Refusal::BufferTooShort));
     assert_eq!(column.result().err(), Some(Refusal::NotFinished));
 }

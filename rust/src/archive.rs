@@ -20,7 +20,7 @@ pub struct Identity {
     pub own: [u8; VALUE_ROOM],
 }
 
-/// What came in from one sender: whether its frame of the round was taken, which any number but 0 says, and the frame.
+/// What came in from one sender for a round: whether its frame was taken, which any number but 0 says, and the frame.
 #[derive(Clone, Copy)]
 #[repr(C)]
 pub struct Slot {
@@ -38,12 +38,14 @@ pub struct Findings {
     pub confidences: [u8; MOST_COLUMNS],
 }
 
-/// A column's record. Its bits may be anything: each call checks it again.
+/// A column's record, with the frames of its round and those that came early, for the round that follows. Its bits may be anything: each
+/// call checks it again.
 #[derive(Clone, Copy)]
 #[repr(C)]
 pub struct Column {
     pub who: Identity,
     pub slots: [Slot; MOST_COLUMNS],
+    pub early: [Slot; MOST_COLUMNS],
     pub found: Findings,
     pub round: u32,
     pub refused: u32,

@@ -7,8 +7,8 @@
 //! for _ in 0..3 {
 //!     let mut buffer = [0; LONGEST_FRAME];
 //!     radio.send(column.send(&mut buffer)?);
-//!     while let Some((slot, frame)) = radio.frame_in_this_round() {
-//!         let _ = column.take(slot, frame);
+//!     while let Some((slot, frame)) = radio.frame_before(end_of_round) {
+//!         let _ = column.take(slot, frame); // of this round, or early for the next
 //!     }
 //!     column.close()?;
 //! }
@@ -72,7 +72,8 @@ impl Column {
         self.record.refused
     }
 
-    /// Takes the frame that came in slot k, which is column k's. A refusal is counted where it is the frame's fault.
+    /// Takes the frame that came in slot k, which is column k's: one of the round, or one of the round that follows, which is kept and
+    /// counts as taken when that round opens. A refusal is counted where it is the frame's fault.
     pub fn take(&mut self, slot: u32, frame: &[u8]) -> Result<(), Refusal> {
         let outcome = archive::take(&self.record, slot, frame);
         self.record = outcome.column;
@@ -90,7 +91,7 @@ impl Column {
         Ok(&buffer[..self.frame_size()])
     }
 
-    /// Closes the round.
+    /// Closes the round. The next one opens with the frames that came early for it.
     pub fn close(&mut self) -> Result<(), Refusal> {
         let outcome = archive::close(&self.record);
         self.record = outcome.column;

@@ -5,6 +5,7 @@ use crate::frames::{command_of, frame, frame_length};
 use crate::record::{EMPTY_SLOT, bytes_at, difference};
 use crate::refusals::{Call, Case, answer, count_after};
 use std::fmt::Debug;
+use std::mem::replace;
 
 /// Ends the run where the library has something else than the model.
 pub fn same<T: PartialEq + Debug>(what: &str, ours: T, model: T, column: &Column) {
@@ -46,7 +47,7 @@ fn case_of<'a>(column: &'a Column, slot: u32, frame: &'a [u8], room: usize) -> C
         run,
         ref own,
     } = column.who;
-    let taken = (1..=32).contains(&slot) && column.slots[slot as usize - 1].taken != 0;
+    let is_there = |slots: &[Slot]| (1..=32).contains(&slot) && slots[slot as usize - 1].taken != 0;
     Case {
         n,
         t,
@@ -57,7 +58,8 @@ fn case_of<'a>(column: &'a Column, slot: u32, frame: &'a [u8], room: usize) -> C
         run,
         slot,
         frame,
-        taken,
+        taken: is_there(&column.slots),
+        early: is_there(&column.early),
         room,
     }
 }
@@ -93,13 +95,16 @@ pub fn taken(column: &Column, slot: u32, lent: &[u8]) -> Outcome {
     outcome
 }
 
-/// A frame was taken: its slot holds it in front of zeros, and all else is as before.
+/// A frame was taken: its slot, of the round or of the one that follows, holds it in front of zeros, and all else is as before.
 fn same_but_slot(after: &Column, before: &Column, slot: u32, lent: &[u8]) {
     let k = slot as usize - 1;
     let mut rest = *after;
-    rest.slots[k] = before.slots[k];
+    let Slot { taken, bytes } = if lent[0] == command_of(before.round) {
+        replace(&mut rest.slots[k], before.slots[k])
+    } else {
+        replace(&mut rest.early[k], before.early[k])
+    };
     same_record("a frame taken", &rest, before);
-    let Slot { taken, bytes } = after.slots[k];
     same("the slot's mark", taken, 1, before);
     same("the slot's frame", &bytes[..lent.len()], lent, before);
     zeros("behind the slot's frame", &bytes[lent.len()..], before);
@@ -134,13 +139,15 @@ pub fn sent(column: &Column, room: usize, operand: Option<&[u8]>) {
     same("the buffer", buffer, expected, column);
 }
 
-/// Closes: every slot is empty then, the round's arrays may have other bytes in front of zeros, and all else but the round is as before.
-pub fn closed(column: &Column) {
+/// Closes: every slot has what came early then, and nothing is early any more; the round's arrays may have other bytes in front of zeros,
+/// and all else but the round is as before.
+pub fn closed(column: &Column) -> Column {
     let outcome = archive::close(column);
     let model = model(Call::Close, column, 0, &[], 0);
     same("closing", outcome.answer, model, column);
     if model != 0 {
-        return same_record("a refused closing", &outcome.column, column);
+        same_record("a refused closing", &outcome.column, column);
+        return outcome.column;
     }
     let now = outcome.column.found;
     let Identity { n, w, .. } = column.who;
@@ -161,7 +168,8 @@ pub fn closed(column: &Column) {
         },
     };
     let expected = Column {
-        slots: [EMPTY_SLOT; 32],
+        slots: column.early,
+        early: [EMPTY_SLOT; 32],
         found,
         round: column.round + 1,
         ..*column
@@ -175,6 +183,7 @@ pub fn closed(column: &Column) {
             zeros("behind the confidences", &now.confidences[count..], column);
         }
     }
+    outcome.column
 }
 
 /// Asks for the result: the record's values and confidences in front of zeros, or zeros with a refusal.

@@ -39,7 +39,7 @@ fn damaged(chance: &mut Chance) -> Column {
         who.number = 1 + chance.below(who.n.into()) as u32;
         column.round = 1 + chance.below(4) as u32;
     }
-    for slot in &mut column.slots {
+    for slot in column.slots.iter_mut().chain(&mut column.early) {
         slot.taken *= chance.below(2) as u8;
     }
     let bits = chance.word() as u32;

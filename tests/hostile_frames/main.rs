@@ -30,7 +30,7 @@ fn main() {
         let threads = GROUPS.map(|(n, t, w)| scope.spawn(move || taking::all_frames(n, t, w)));
         threads.map(|thread| thread.join().unwrap()).iter().sum()
     });
-    let named = taking::longest_frame() + taking::count_at_top();
+    let named = taking::longest_frame() + taking::early_frames() + taking::count_at_top();
     let buffers: u64 = GROUPS
         .iter()
         .map(|&(n, t, w)| sending::all_buffers(n, t, w))

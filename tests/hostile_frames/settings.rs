@@ -40,7 +40,7 @@ fn openings(n: u32, t: u32, w: u32, number: u32) -> u64 {
 }
 
 fn opened(n: u32, t: u32, w: u32, number: u32, own: &[u8]) {
-    let (round, run, slot, taken, room) = (0, RUN, 0, false, 0);
+    let (round, run, slot, taken, early, room) = (0, RUN, 0, false, false, 0);
     let case = Case {
         n,
         t,
@@ -52,6 +52,7 @@ fn opened(n: u32, t: u32, w: u32, number: u32, own: &[u8]) {
         slot,
         frame: &[],
         taken,
+        early,
         room,
     };
     let model = answer(Call::Open, &case);

@@ -3,11 +3,13 @@
 use crate::RUN;
 use crate::archive::{self, Column, Identity};
 use crate::chance::Chance;
-use crate::compare::{same, taken};
+use crate::compare::{closed, same, taken};
+use crate::division;
 use crate::frames::{command_of, frame, frame_length};
 use crate::record::EMPTY;
 
-/// The records of rounds 1 to 4 of one exchange, each with the frames of all but two columns taken.
+/// The records of rounds 1 to 4 of one exchange, each with the frames of all but two columns taken. Columns of an even number are ahead of
+/// the others: their frames of rounds two and three come early.
 pub fn rounds(n: u32, t: u32, w: u32, number: u32, left_out: [u32; 2]) -> Vec<Column> {
     let mut chance = Chance::new(n.into());
     let mut value = [0u8; 8];
@@ -18,42 +20,44 @@ pub fn rounds(n: u32, t: u32, w: u32, number: u32, left_out: [u32; 2]) -> Vec<Co
     let mut column = opened.column;
     let mut records = Vec::new();
     for round in 1..=3 {
-        let size = frame_length(command_of(round), t, w).unwrap();
         for slot in (1..=n).filter(|slot| *slot != number && !left_out.contains(slot)) {
-            let mut operand = vec![0; size - 4];
-            chance.fill(&mut operand);
-            let outcome = taken(
-                &column,
-                slot,
-                &frame(command_of(round), slot as u8, RUN, &operand),
-            );
-            same("a right frame", outcome.answer, 0, &column);
-            column = outcome.column;
+            let ahead = (slot + 1) % 2;
+            let first = if round == 1 { 1 } else { round + ahead };
+            for command in (first..=3.min(round + ahead)).map(command_of) {
+                let mut operand = vec![0; frame_length(command, t, w).unwrap() - 4];
+                chance.fill(&mut operand);
+                let outcome = taken(&column, slot, &frame(command, slot as u8, RUN, &operand));
+                same("a right frame", outcome.answer, 0, &column);
+                column = outcome.column;
+            }
         }
         records.push(column);
-        let closed = archive::close(&column);
-        same("closing", closed.answer, 0, &column);
-        column = closed.column;
+        column = closed(&column);
     }
     records.push(column);
     records
 }
 
-/// Every length and command, in every round and slot, with either sender byte, with the right and another run, and as the sender's
-/// first and second frame of the round.
+/// Every length and command, in every round and slot, with either sender byte, with the right and another run, and with the sender's frames
+/// of this round and of the next there or not. Where one of these is there without the other, the lengths are those about a right one: all
+/// of them would take twice the time.
 pub fn all_frames(n: u32, t: u32, w: u32) -> u64 {
     let number = (n + 1) / 2;
     let sender = if number == n { 1 } else { n };
     let other = (1..=n).find(|k| *k != number && *k != sender).unwrap_or(0);
+    let all: Vec<usize> = (0..=400).collect();
+    let near = near_lengths(t, w);
     let mut compared = 0;
     for record in rounds(n, t, w, number, [sender, other]) {
         for slot in [sender, other, number, 0, n + 1] {
-            for first in [true, false] {
+            for (mark, early) in [(0, 0), (0, 1), (1, 0), (1, 1)] {
+                let lengths = if mark == early { &all } else { &near };
                 let mut column = record;
-                column.slots[sender as usize - 1].taken = (!first).into();
+                column.slots[sender as usize - 1].taken = mark;
+                column.early[sender as usize - 1].taken = early;
                 for byte in [sender, other] {
                     for run in [RUN, RUN ^ 0x0100] {
-                        compared += all_lengths(&column, slot, byte as u8, run);
+                        compared += all_commands(&column, slot, byte as u8, run, lengths);
                     }
                 }
             }
@@ -62,19 +66,27 @@ pub fn all_frames(n: u32, t: u32, w: u32) -> u64 {
     compared
 }
 
-/// Frames of every command and length with one header, whose own bytes are kept.
-fn all_lengths(column: &Column, slot: u32, sender: u8, run: u16) -> u64 {
+/// The lengths of a header and of each command's frame, with those beside them.
+fn near_lengths(t: u32, w: u32) -> Vec<usize> {
+    let frames = [1, 2, 3].map(|round| frame_length(command_of(round), t, w).unwrap());
+    let is_near =
+        |length: &usize| *length <= 5 || frames.iter().any(|right| length.abs_diff(*right) <= 1);
+    (0..=400).filter(is_near).collect()
+}
+
+/// Frames of every command and of these lengths with one header, whose own bytes are kept.
+fn all_commands(column: &Column, slot: u32, sender: u8, run: u16, lengths: &[usize]) -> u64 {
     let mut bytes = [0u8; 400];
     Chance::new(slot.into()).fill(&mut bytes);
     for command in 0..=255 {
         bytes[..4].copy_from_slice(&frame(command, sender, run, &[]));
         let before = bytes;
-        for length in 0..=400 {
+        for &length in lengths {
             taken(column, slot, &bytes[..length]);
         }
         same("the frame lent", bytes, before, column);
     }
-    256 * 401
+    256 * lengths.len() as u64
 }
 
 /// The longest frame: 164 bytes are taken, 165 not, and a buffer must hold 164.
@@ -108,16 +120,54 @@ pub fn longest_frame() -> u64 {
     4
 }
 
+/// Hands a column one frame in each of these slots, all with one answer.
+fn handed(column: &Column, command: u8, operands: &[(u32, &[u8])], answer: u32) -> Column {
+    let mut column = *column;
+    for &(slot, operand) in operands {
+        let outcome = taken(&column, slot, &frame(command, slot as u8, RUN, operand));
+        same("a named frame", outcome.answer, answer, &column);
+        column = outcome.column;
+    }
+    column
+}
+
+/// All checks of round two reach column 2 of four while it takes values, and none come later; the value of column 4 never comes. Each is
+/// taken once and counts once: not for a value, in Y, and not again in round three, which has the own row alone and where nothing is
+/// believed. Two rounds ahead is too early.
+pub fn early_frames() -> u64 {
+    let vector = [9, 8, 7, 0];
+    let checks = division::check_values(&vector, 1, 1);
+    let right = [1, 3, 4].map(|slot| (slot, &checks[..]));
+    let other = [1, 3, 4].map(|slot| (slot, &[1, 2][..]));
+    let mut column = archive::open(4, 1, 1, 2, RUN, &[8]).column;
+    column = handed(&column, 0x22, &right, 0);
+    column = handed(&column, 0x22, &right, 15);
+    column = handed(&column, 0x22, &other, 15);
+    column = handed(&column, 0x33, &right, 14);
+    column = handed(&column, 0x11, &[(1, &[9]), (3, &[7])], 0);
+    column = closed(&column);
+    same("V", &column.found.heard[..4], &vector, &column);
+    column = handed(&column, 0x22, &other, 15);
+    column = closed(&column);
+    same("Y", &column.found.agreed[..4], &vector, &column);
+    column = handed(&column, 0x22, &right, 14);
+    column = closed(&column);
+    let beliefs = archive::result(&column).confidences;
+    same("confidences", beliefs, [0; 32], &column);
+    6 * 3 + 2 + 3
+}
+
 /// The count of refused frames at its bottom and its top, under each of the refusals 9 to 15.
 pub fn count_at_top() -> u64 {
-    let frames: [(u32, &[u8]); 7] = [
-        (4, &[0x22, 4, 0x12]),
-        (4, &[0x21, 4, 0x12, 0x34, 1, 2]),
-        (4, &[0x22, 4, 0x12, 0x34, 1]),
-        (4, &[0x22, 3, 0x12, 0x34, 1, 2]),
-        (4, &[0x22, 4, 0x13, 0x34, 1, 2]),
-        (4, &[0x33, 4, 0x12, 0x34, 1, 2]),
-        (3, &[0x22, 3, 0x12, 0x34, 1, 2]),
+    let frames: [(u32, u32, &[u8]); 8] = [
+        (9, 4, &[0x22, 4, 0x12]),
+        (10, 4, &[0x21, 4, 0x12, 0x34, 1, 2]),
+        (11, 4, &[0x22, 4, 0x12, 0x34, 1]),
+        (12, 4, &[0x22, 3, 0x12, 0x34, 1, 2]),
+        (13, 4, &[0x22, 4, 0x13, 0x34, 1, 2]),
+        (14, 4, &[0x11, 4, 0x12, 0x34, 1]),
+        (15, 3, &[0x22, 3, 0x12, 0x34, 1, 2]),
+        (15, 4, &[0x33, 4, 0x12, 0x34, 1, 2]),
     ];
     let counts = [
         (0, 1),
@@ -141,7 +191,8 @@ pub fn count_at_top() -> u64 {
             ..EMPTY
         };
         column.slots[2].taken = 255;
-        for (number, (slot, lent)) in (9..).zip(frames) {
+        column.early[3].taken = 255;
+        for (number, slot, lent) in frames {
             let outcome = taken(&column, slot, lent);
             same("a refusal", outcome.answer, number, &column);
             same("the count", outcome.column.refused, after, &column);

@@ -22,6 +22,7 @@ pub const EMPTY: Column = Column {
         own: [0; 8],
     },
     slots: [EMPTY_SLOT; 32],
+    early: [EMPTY_SLOT; 32],
     found: Findings {
         heard: [0; 256],
         agreed: [0; 256],
