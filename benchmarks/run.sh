@@ -19,7 +19,7 @@ echo
 c_program benchmarks/calls/stack.c target/tests/stack_use
 target/tests/stack_use
 echo
-echo "The archive has $(wc -c <target/staticlib/libsajowemi.a) bytes, a record 6,116."
+echo "The archive has $(wc -c <target/staticlib/libsajowemi.a) bytes."
 echo
 echo "| Crate | Seconds of its last check |"
 echo "|---|---|"

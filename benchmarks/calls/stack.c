@@ -43,7 +43,8 @@ static void line(const char *name, void (*call)(void)) { printf("| %s | %zu |\n"
 
 int main(void) {
     memset(vector, 9, sizeof vector);
-    puts("Greatest stack use in bytes, n = 31, t = 10, w = 8, a record of 6,116 bytes passed by value:\n\n| Call | Bytes |\n|---|---|");
+    printf("Greatest stack use in bytes, n = 31, t = 10, w = 8, a record of %zu bytes passed by value:\n\n", sizeof column);
+    puts("| Call | Bytes |\n|---|---|");
     line("open", open_call);
     column = outcome.column;
     memcpy(frame, (uint8_t[]){0x11, 2, 0, 7}, 4);
