@@ -21,7 +21,7 @@ pub record Open-says (n t w number run : ℕ) (own : List ℕ) (answer : ℕ) (c
   pub done : answer ≡ 0 → column ≡ opened-column (identity n t w number run own)
   pub refused : (answer ≡ 0 → ⊥) → column ≡ no-column
 
--- `take`: the refusal that applies, or 0 and the frame in its slot, all else as before
+-- `take`: the refusal that applies, or 0 and the frame in its slot, of this round or of the one that follows, all else as before
 pub record Take-says (c : Column) (slot : ℕ) (frame : List ℕ) (answer : ℕ) (c-now : Column) : Type 0 where
   pub answered : answer ≡ take-refusal (view c) slot frame
   pub done : answer ≡ 0 → c-now ≡ with-slot c slot frame
@@ -38,8 +38,8 @@ pub record Send-says (c : Column) (buffer : List ℕ) (answer : ℕ) (buffer-now
   pub done : answer ≡ 0 → (frame : List ℕ) × Frame-of (view c) frame × (buffer-now ≡ in-front frame buffer)
   pub refused : (answer ≡ 0 → ⊥) → buffer-now ≡ buffer
 
--- `close`: the refusal that applies, or 0 and the record one round on: it reads as the definitions' record after the round, and what it
--- has found then is written in front of its array, zeros behind; all else is as before
+-- `close`: the refusal that applies, or 0 and the record one round on: it reads as the definitions' record after the round, the frames that
+-- came early are in its slots, and what it has found then is written in front of its array, zeros behind; all else is as before
 pub record Close-says (c : Column) (answer : ℕ) (c-now : Column) : Type 0 where
   pub answered : answer ≡ close-refusal (view c)
   pub reads : Leads closing (view c) (view c-now)

@@ -37,7 +37,7 @@ pub fn open(n: u32, t: u32, w: u32, number: u32, run: u16, own: &[u8]) -> Outcom
     Outcome { answer, column }
 }
 
-// Takes a frame that came in a slot: 0, or the refusal 1 to 4 or 6 to 15.
+// Takes a frame that came in a slot, of the round, or early, of the one that follows: 0, or the refusal 1 to 4 or 6 to 15.
 pub fn take(mut column: Column, slot: u32, frame: &[u8]) -> Outcome
     ensures { λ r. ⌜ Take-says column slot (now (frame .entry)) (r .answer) (r .column) ⌝ }
 {
@@ -92,7 +92,7 @@ pub fn send(column: Column, buffer: &mut [u8]) -> u32
     0
 }
 
-// Closes the round: 0, or the refusal 1 to 4, 6 or 7.
+// Closes the round, and the next opens with the frames that came early: 0, or the refusal 1 to 4, 6 or 7.
 pub fn close(mut column: Column) -> Outcome
     ensures { λ r. ⌜ Close-says column (r .answer) (r .column) ⌝ }
 {

@@ -21,6 +21,10 @@ use Rattle.record.specs.declared.Column.{Column}
 unfoldable pub no-slot : Slot
 no-slot = record { taken = 0; bytes = replicate longest-frame 0 }
 
+-- slots in which nothing came
+abbrev pub empty-slots : List Slot
+empty-slots = replicate most-columns no-slot
+
 -- a slot with a frame: zeros behind it
 unfoldable pub frame-slot : (frame : List ℕ) → Slot
 frame-slot bs = record { taken = 1; bytes = padded longest-frame bs }
@@ -37,11 +41,11 @@ identity n t w k run v = record { n = n; t = t; w = w; number = k; run = run; ow
 -- no column: every byte is 0, so that each call on it is refused
 unfoldable pub no-column : Column
 no-column =
-    record { who = identity 0 0 0 0 0 []; slots = replicate most-columns no-slot; early = replicate most-columns no-slot; found = no-findings; round = 0; refused = 0 }
+    record { who = identity 0 0 0 0 0 []; slots = empty-slots; early = empty-slots; found = no-findings; round = 0; refused = 0 }
 
 -- a column as opening makes it
 unfoldable pub opened-column : Identity → Column
-opened-column i = record { who = i; slots = replicate most-columns no-slot; early = replicate most-columns no-slot; found = no-findings; round = 1; refused = 0 }
+opened-column i = record { who = i; slots = empty-slots; early = empty-slots; found = no-findings; round = 1; refused = 0 }
 
 -- slots with one more frame, if it is one of theirs
 unfoldable pub slots-with : (theirs : Bool) → List Slot → (slot : ℕ) → (frame : List ℕ) → List Slot
@@ -79,4 +83,4 @@ found-now m f q =
 
 -- a column one round on, with what it has found then: the frames that came early are in its slots, and none has come early yet
 unfoldable pub one-on : Column → Findings → Column
-one-on c f = record { who = c .who; slots = c .early; early = replicate most-columns no-slot; found = f; round = c .round + 1; refused = c .refused }
+one-on c f = record { who = c .who; slots = c .early; early = empty-slots; found = f; round = c .round + 1; refused = c .refused }

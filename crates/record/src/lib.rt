@@ -29,7 +29,7 @@ pub struct Identity {
     pub own: [u8; VALUE_ROOM],
 }
 
-// What came in, for one sender: whether its frame of the round was taken, which any number but 0 says, and the frame.
+// What came in from one sender for a round: whether its frame was taken, which any number but 0 says, and the frame.
 #[repr(C)]
 pub struct Slot {
     pub taken: u8,

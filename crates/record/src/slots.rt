@@ -1,17 +1,16 @@
 // Slots: empty ones, and the one that a frame is kept in.
 ghost use mathlib.Core.Path.{_≡_};
 ghost use Prim.Native.Nat.{_≤_};
-ghost use lib.ListN.{length, replicate};
-ghost use Rattle.code.specs.Size.{most-columns};
+ghost use lib.ListN.{length};
 ghost use Rattle.record.specs.Frame.{longest-frame};
-ghost use Rattle.record.specs.Stored.{no-slot, frame-slot};
+ghost use Rattle.record.specs.Stored.{empty-slots, frame-slot};
 use crate::LONGEST_FRAME;
 use crate::Slot;
 use code::sizes::MOST_COLUMNS;
 
 // Slots in which nothing came.
 pub fn no_slots() -> [Slot; MOST_COLUMNS]
-    ensures { λ r. ⌜ r ≡ replicate most-columns no-slot ⌝ }
+    ensures { λ r. ⌜ r ≡ empty-slots ⌝ }
 {
     let slot = Slot {
         taken: 0,
