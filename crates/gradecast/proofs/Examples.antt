@@ -1,4 +1,4 @@
--- Exchanges that meet the conditions of demand 3.
+-- Exchanges that meet the conditions of demand 3, and a frame that comes a round early.
 pub mod Exchange
 pub mod Printed
 pub mod Rough
