@@ -4,4 +4,3 @@ pub mod Sent
 pub mod Step
 pub mod Asked
 pub mod Outcome
-pub mod NothingFollows

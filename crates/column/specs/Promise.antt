@@ -4,13 +4,11 @@ use mathlib.Core.List.{List}
 use mathlib.Core.Option.{none, some}
 use Prim.Native.Nat.{ℕ, suc, _≤_}
 use lib.ListN.{length, take}
-use Rattle.code.specs.Settings.{Settings}
 use Rattle.code.specs.Size.{most-columns}
-use Rattle.grading.specs.Value.{Value}
 use Rattle.record.specs.Frame.{frame-size, operand-in}
-use Rattle.record.specs.Record.{Rec, no-frames, opened, frames-of, frame-at, In-time, counted}
+use Rattle.record.specs.Record.{Rec, frames-of, frame-at, In-time, counted}
 use Rattle.record.specs.Refusal.{record-refusal, take-refusal}
-use Rattle.column.specs.Call.{Call, after-take, Run, Frame-of}
+use Rattle.column.specs.Call.{after-take, Frame-of}
 use Rattle.record.specs.View.{settings-of, who-in, view}
 use Rattle.record.specs.Stored.{with-slot}
 use Rattle.column.specs.Entry.{Open-says, Take-says, Frame-size-says, Send-says, Close-says, Result-says}
@@ -65,8 +63,3 @@ Sent-counts =
     (c d d-now e : Column) (buffer buffer-now : List ℕ) (answer closed : ℕ) → Send-says c buffer 0 buffer-now → Awaits d c →
     c .round ≡ suc (d .round) → length (d .early) ≡ most-columns → Take-says d (c .who .number) (sent-frame c buffer-now) answer d-now →
     Close-says d-now closed e → (closed ≡ 0) × (e .round ≡ c .round) × (counted (view e) (c .who .number) ≡ some (operand-in (sent-frame c buffer-now)))
-
--- in round three nothing follows: whatever was called since an opening, from then on no frame is kept early
-unfoldable pub Nothing-follows : Type 0
-Nothing-follows =
-    (s : Settings) (k run : ℕ) (v : Value) (cs : List Call) (r : Rec) → Run (opened s k run v) cs r → 3 ≤ r .round → r .early ≡ no-frames s

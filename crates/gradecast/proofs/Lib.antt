@@ -9,3 +9,4 @@ pub mod Cases
 pub mod Building
 pub mod Testing
 pub mod Examples
+pub mod NothingFollows

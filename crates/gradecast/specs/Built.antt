@@ -11,6 +11,7 @@ use Rattle.grading.specs.Held.{Held, held-in}
 use Rattle.grading.specs.Promise.{all-different}
 use Rattle.column.specs.Call.{Call, taking, sending, closing, asking}
 use Rattle.record.specs.View.{view}
+use Rattle.record.specs.Stored.{empty-slots}
 use Rattle.column.specs.Entry.{Open-says, Take-says, Send-says, Close-says, Result-says}
 use Rattle.record.specs.declared.Column.{Column}
 use Rattle.gradecast.specs.Promise.{Among, Good, numbers, none-held, Fair, Agree}
@@ -63,3 +64,9 @@ Built-gradecast =
     (s : Settings) (run : ℕ) (bs : List Built) (g h x : Built) → Built-conditions s run bs → Among g bs → Among h bs → Among x bs →
     g .last .round ≡ 4 → h .last .round ≡ 4 → (a b : ℕ) (vs cs us ks : List ℕ) → Result-says (g .last) a vs cs → Result-says (h .last) b us ks →
     (a ≡ 0) × (b ≡ 0) × Agree (s .n) (answered s vs cs) (answered s us ks) (x .number) (x .own)
+
+-- in round three nothing follows: from then on the early slots of a column are empty to the byte, and at the end all of its slots are
+unfoldable pub Nothing-follows : Type 0
+Nothing-follows =
+    (s : Settings) (run : ℕ) (b : Built) → Built-ran s run b →
+    (3 ≤ b .last .round → b .last .early ≡ empty-slots) × (4 ≤ b .last .round → b .last .slots ≡ empty-slots)
