@@ -1,4 +1,4 @@
-/* Four columns, one of which lies: what the good ones believe at the end.
+/* Four columns, one of which lies: what the good ones believe at the end, and how far off they found each other.
  *
  *     rt staticlib sajowemi
  *     gcc -Iinclude -o target/group examples/group.c target/staticlib/libsajowemi.a && target/group
@@ -35,6 +35,24 @@ static void take_lie(struct sajowemi_column *column, int reader, int round) {
     must(sajowemi_column_take(column, LIAR, lie, sajowemi_column_frame_size(column)));
 }
 
+/* Whose radio may be going bad: the senders that were not right in every place of a round. */
+static void print_told(const char *round, const uint8_t *told) {
+    int off = 0;
+    printf("  round %s:", round);
+    for (int of = 0; of < GOOD + BAD; of++) {
+        if (told[of] == 0)
+            continue;
+        printf("%s column %d ", off++ ? "," : "", of + 1);
+        if (told[of] == SAJOWEMI_TOLD_MISSING)
+            printf("not heard");
+        else if (told[of] == SAJOWEMI_TOLD_NONE)
+            printf("too far off to tell");
+        else
+            printf("off by %d place%s", told[of], told[of] == 1 ? "" : "s");
+    }
+    printf("%s\n", off ? "" : " nobody off");
+}
+
 int main(void) {
     const uint8_t heights[GOOD][SIZE] = {{241}, {86}, {35}};
     struct sajowemi_column columns[GOOD];
@@ -55,6 +73,8 @@ int main(void) {
         for (int of = 0; of < GOOD + BAD; of++)
             printf(" %d/%d", held.values[of], held.confidences[of]);
         printf("\n");
+        print_told("two", held.told_two);
+        print_told("three", held.told_three);
     }
     return 0;
 }

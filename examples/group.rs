@@ -1,9 +1,9 @@
-//! Four columns, one of which lies: what the good ones believe at the end.
+//! Four columns, one of which lies: what the good ones believe at the end, and how far off they found each other.
 //!
 //!     rt staticlib sajowemi
 //!     cd rust && cargo run --example group
 
-use sajowemi::{Column, LONGEST_FRAME, Refusal, Settings};
+use sajowemi::{Column, LONGEST_FRAME, Refusal, Settings, Told};
 
 const LIAR: u32 = 4;
 const RUN: u8 = 7;
@@ -31,6 +31,26 @@ fn send_to_others(columns: &mut [Column], sender: usize) -> Result<(), Refusal> 
     Ok(())
 }
 
+/// Whose radio may be going bad: the senders that were not right in every place of a round.
+fn print_told(round: &str, told: impl Fn(u32) -> Option<Told>) {
+    let off: Vec<String> = (1..)
+        .map_while(|k| Some((k, told(k)?)))
+        .filter_map(|(k, told)| match told {
+            Told::Changed(0) => None,
+            Told::Changed(1) => Some(format!("column {k} off by 1 place")),
+            Told::Changed(places) => Some(format!("column {k} off by {places} places")),
+            Told::Missing => Some(format!("column {k} not heard")),
+            Told::Nothing => Some(format!("column {k} too far off to tell")),
+        })
+        .collect();
+    let off = if off.is_empty() {
+        "nobody off".to_string()
+    } else {
+        off.join(", ")
+    };
+    println!("  round {round}: {off}");
+}
+
 fn main() -> Result<(), Refusal> {
     let settings = Settings { n: 4, t: 1, w: 1 };
     let mut columns = Vec::new();
@@ -50,11 +70,14 @@ fn main() -> Result<(), Refusal> {
     }
     for column in &mut columns {
         column.close()?;
+        let beliefs = column.result()?;
         print!("column {} believes:", column.number());
-        for (value, confidence) in column.result()?.all() {
+        for (value, confidence) in beliefs.all() {
             print!(" {}/{confidence}", value[0]);
         }
         println!();
+        print_told("two", |k| beliefs.told_two(k));
+        print_told("three", |k| beliefs.told_three(k));
     }
     Ok(())
 }

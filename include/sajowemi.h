@@ -47,6 +47,13 @@ enum sajowemi_answer {
     SAJOWEMI_NONE = 256 /* of repair alone: no vector is near enough */
 };
 
+/* What a round told of a sender where it is no number of places. A number of places is at most 52; of a good sender, in an exchange whose
+ * good columns reach each other, it is no mark and at most the count of bad columns, which may have told the two of them different values. */
+enum sajowemi_told {
+    SAJOWEMI_TOLD_MISSING = 254, /* no frame of the sender's counted in that round */
+    SAJOWEMI_TOLD_NONE = 255     /* "none": its check values fit no vector near */
+};
+
 /* The longest frame, header included: the buffer that always suffices. */
 #define SAJOWEMI_LONGEST_FRAME 164
 /* The most columns, the most bytes of a value, and room for a value of every column. */
@@ -72,12 +79,16 @@ struct sajowemi_slot {
 };
 
 /* What a column has found: V after round one, Y after two, values and confidences after three. Values stand one after the other, w
- * bytes each, from their array's front on. */
+ * bytes each, from their array's front on. Of sender k, told_two[k - 1] and told_three[k - 1] are how far off it was in that round: how
+ * many of the n + 2 t places, columns' values and check values together, were changed when its row was repaired; 0 for the own row; or
+ * SAJOWEMI_TOLD_MISSING or SAJOWEMI_TOLD_NONE. Zeros until that round is closed. */
 struct sajowemi_findings {
     uint8_t heard[SAJOWEMI_VECTOR_ROOM];
     uint8_t agreed[SAJOWEMI_VECTOR_ROOM];
     uint8_t values[SAJOWEMI_VECTOR_ROOM];
     uint8_t confidences[SAJOWEMI_MOST_COLUMNS];
+    uint8_t told_two[SAJOWEMI_MOST_COLUMNS];
+    uint8_t told_three[SAJOWEMI_MOST_COLUMNS];
 };
 
 /* A column's record: who it is, what came in by slot, for its round and early, for the round that follows, what it has found, its round,
@@ -96,12 +107,15 @@ struct sajowemi_outcome {
     struct sajowemi_column column;
 };
 
-/* Column k's value has w bytes from values + (k - 1) * w on, and its confidence is confidences[k - 1]; behind those of n columns there are
- * zeros. A record that these calls made holds confidences 0, 1 and 2, and zeros for a value at 0; of any other record, what stands there. */
+/* Column k's value has w bytes from values + (k - 1) * w on, its confidence is confidences[k - 1], and what rounds two and three told of
+ * it is told_two[k - 1] and told_three[k - 1]; behind those of n columns there are zeros. A record that these calls made holds confidences
+ * 0, 1 and 2, zeros for a value at 0, and of each sender a number of places or a mark; of any other record, what stands there. */
 struct sajowemi_holdings {
     uint32_t answer;
     uint8_t values[SAJOWEMI_VECTOR_ROOM];
     uint8_t confidences[SAJOWEMI_MOST_COLUMNS];
+    uint8_t told_two[SAJOWEMI_MOST_COLUMNS];
+    uint8_t told_three[SAJOWEMI_MOST_COLUMNS];
 };
 
 /* The level of the group, and the level less the column's own height, in tenths of a millimetre. */
@@ -109,6 +123,13 @@ struct sajowemi_level {
     uint32_t answer;
     int64_t level;
     int64_t correction;
+};
+
+/* What repair answered, and how many of the n + 2 t places it changed, columns' values and check values together: a place counts once if
+ * any byte of it changed. 0 for a refusal and for SAJOWEMI_NONE. */
+struct sajowemi_repaired {
+    uint32_t answer;
+    uint32_t changed;
 };
 
 /* A column with its settings, number, 1 to n, run and own value of w bytes. Refused 1 to 6, with a record of zeros. */
@@ -140,8 +161,8 @@ uint32_t sajowemi_check_values(uint32_t n, uint32_t t, uint32_t w, const uint8_t
                                size_t output_length);
 
 /* The vector repaired by the check values received, in front of the output; or SAJOWEMI_NONE. Refused 1 to 3 or 18. */
-uint32_t sajowemi_repair(uint32_t n, uint32_t t, uint32_t w, const uint8_t *vector, size_t vector_length, const uint8_t *checks,
-                         size_t checks_length, uint8_t *output, size_t output_length);
+struct sajowemi_repaired sajowemi_repair(uint32_t n, uint32_t t, uint32_t w, const uint8_t *vector, size_t vector_length,
+                                         const uint8_t *checks, size_t checks_length, uint8_t *output, size_t output_length);
 
 /* The calls of a column on its record in place. Each is the call above with its name, and answers as that does; the record behind the
  * pointer becomes the outcome's, whatever the answer: a refused opening leaves zeros. */

@@ -8,6 +8,26 @@ use std::collections::BTreeMap;
 
 pub type Value = Vec<u8>;
 
+/// What a round tells of a sender: how many of the n + 2t places the repair of its row changed, or one of two marks, for a missing frame
+/// and for "none".
+#[derive(Clone, Copy, Debug, PartialEq)]
+pub enum Told {
+    Changed(u32),
+    Missing,
+    None,
+}
+
+impl Told {
+    /// As it stands in a record.
+    pub fn byte(self) -> u8 {
+        match self {
+            Told::Changed(places) => places as u8,
+            Told::Missing => 254,
+            Told::None => 255,
+        }
+    }
+}
+
 #[derive(Clone)]
 pub struct Model {
     pub n: u32,
@@ -25,6 +45,9 @@ pub struct Model {
     pub heard: Vec<Value>,
     pub agreed: Vec<Value>,
     pub held: Vec<(Value, u8)>,
+    /// What rounds two and three told of each column.
+    pub told_two: Vec<Told>,
+    pub told_three: Vec<Told>,
 }
 
 impl Model {
@@ -45,6 +68,8 @@ impl Model {
             heard,
             agreed,
             held,
+            told_two: vec![],
+            told_three: vec![],
         }
     }
 
@@ -110,16 +135,18 @@ impl Model {
         match self.round {
             1 => self.heard = (1..=self.n).map(|k| self.heard_of(k)).collect(),
             2 => {
-                let table = self.table(&self.heard);
+                let (table, told) = self.table(&self.heard);
                 self.agreed = (0..self.n as usize)
                     .map(|k| self.agreed_at(&table, k))
                     .collect();
+                self.told_two = told;
             }
             _ => {
-                let table = self.table(&self.agreed);
+                let (table, told) = self.table(&self.agreed);
                 self.held = (0..self.n as usize)
                     .map(|k| self.held_at(&table, k))
                     .collect();
+                self.told_three = told;
             }
         }
         self.round += 1;
@@ -140,17 +167,17 @@ impl Model {
             .unwrap_or(self.blank())
     }
 
-    fn table(&self, vector: &[Value]) -> Vec<Vec<Value>> {
-        (1..=self.n).map(|k| self.row(k, vector)).collect()
+    fn table(&self, vector: &[Value]) -> (Vec<Vec<Value>>, Vec<Told>) {
+        (1..=self.n).map(|k| self.row(k, vector)).unzip()
     }
 
-    fn row(&self, k: u32, vector: &[Value]) -> Vec<Value> {
+    fn row(&self, k: u32, vector: &[Value]) -> (Vec<Value>, Told) {
         if k == self.number {
-            return vector.to_vec();
+            return (vector.to_vec(), Told::Changed(0));
         }
         let blanks = vec![self.blank(); self.n as usize];
         let Some(checks) = &self.operands[k as usize - 1] else {
-            return blanks;
+            return (blanks, Told::Missing);
         };
         let mut repaired = vec![0; (self.n * self.w) as usize];
         match linear::repair(
@@ -161,11 +188,11 @@ impl Model {
             checks,
             &mut repaired,
         ) {
-            0 => repaired
-                .chunks(self.w as usize)
-                .map(<[u8]>::to_vec)
-                .collect(),
-            _ => blanks,
+            (0, changed) => {
+                let values = repaired.chunks(self.w as usize).map(<[u8]>::to_vec);
+                (values.collect(), Told::Changed(changed))
+            }
+            _ => (blanks, Told::None),
         }
     }
 

@@ -1,6 +1,6 @@
 //! libfec (Debian's libfec-dev) set to this field and these roots: a block of 255 bytes for each plane, column k at k - 1
 //! and the checks at the end, zeros between. Its answer is "none" where it gives up, changes more than t bytes, or changes
-//! a byte between.
+//! a byte between. Which bytes it changed is what it says itself.
 
 use std::ffi::{c_int, c_void};
 use std::ptr;
@@ -53,7 +53,8 @@ impl Coders {
         checks
     }
 
-    /// Repair of lengths that are right: 0 and the vector in front of the output, or 256 for none.
+    /// Repair of lengths that are right: 0 and the vector in front of the output, or 256 for none; and how many of the n + 2t places
+    /// were changed in some plane.
     pub fn repair(
         &self,
         n: usize,
@@ -62,8 +63,9 @@ impl Coders {
         vector: &[u8],
         checks: &[u8],
         output: &mut [u8],
-    ) -> u32 {
+    ) -> (u32, u32) {
         let mut repaired = [0; 256];
+        let mut changed = [false; 255];
         for p in 0..w {
             let mut block = [0; 255];
             for k in 0..n {
@@ -73,13 +75,17 @@ impl Coders {
                 block[255 - 2 * t + c] = checks[c * w + p];
             }
             if t > 0 {
-                let changed =
-                    unsafe { decode_rs_char(self.0[t], block.as_mut_ptr(), ptr::null_mut(), 0) };
-                if changed < 0
-                    || changed > t as c_int
-                    || block[n..255 - 2 * t].iter().any(|&b| b != 0)
+                // Room for 2t, the most that it writes.
+                let mut positions = [0; 20];
+                let count = unsafe {
+                    decode_rs_char(self.0[t], block.as_mut_ptr(), positions.as_mut_ptr(), 0)
+                };
+                if count < 0 || count > t as c_int || block[n..255 - 2 * t].iter().any(|&b| b != 0)
                 {
-                    return 256;
+                    return (256, 0);
+                }
+                for &position in &positions[..count as usize] {
+                    changed[position as usize] = true;
                 }
             }
             for k in 0..n {
@@ -87,6 +93,7 @@ impl Coders {
             }
         }
         output[..n * w].copy_from_slice(&repaired[..n * w]);
-        0
+        let places = changed[..n].iter().chain(&changed[255 - 2 * t..]);
+        (0, places.filter(|&&changed| changed).count() as u32)
     }
 }

@@ -110,8 +110,8 @@ fn sums(n: usize, t: usize, word: &[u8]) -> [u8; 2 * MOST] {
     s
 }
 
-/// Repairs the n + 2t bytes of a plane, or answers that no codeword is near.
-fn repair_plane(n: usize, t: usize, word: &mut [u8]) -> bool {
+/// Repairs the n + 2t bytes of a plane and answers which it changed, a bit for each place; nothing where no codeword is near.
+fn repair_plane(n: usize, t: usize, word: &mut [u8]) -> Option<u64> {
     let s = sums(n, t, word);
     let mut m: Matrix = [[0; MOST + 1]; MOST];
     for i in 0..t {
@@ -136,7 +136,7 @@ fn repair_plane(n: usize, t: usize, word: &mut [u8]) -> bool {
         }
     }
     if found < wrong {
-        return false;
+        return None;
     }
 
     let exponents = places.map(|place| exponent(n, t, place));
@@ -147,36 +147,48 @@ fn repair_plane(n: usize, t: usize, word: &mut [u8]) -> bool {
         m[i][wrong] = s[i];
     }
     if eliminate(&mut m, wrong) < wrong {
-        return false;
+        return None;
     }
     for i in wrong..2 * t {
         let sum = (0..wrong).fold(0, |sum, j| sum ^ times(m[j][wrong], i * exponents[j] % 255));
         if sum != s[i] {
-            return false;
+            return None;
         }
     }
+    // No byte that is added here is 0: fewer wrong places would have given fewer pivots.
+    let mut changed = 0;
     for j in 0..wrong {
         word[places[j]] ^= times(m[j][wrong], 255 - FIRST_ROOT * exponents[j] % 255);
+        changed |= 1 << places[j];
     }
-    true
+    Some(changed)
 }
 
-/// The call as the library has it: 0 and the vector in front of the output, 256 for none, or a refusal.
-pub fn repair(n: u32, t: u32, w: u32, vector: &[u8], checks: &[u8], output: &mut [u8]) -> u32 {
+/// The call as the library has it: 0 and the vector in front of the output, 256 for none, or a refusal; and how many of the n + 2t
+/// places it changed, in whatever planes.
+pub fn repair(
+    n: u32,
+    t: u32,
+    w: u32,
+    vector: &[u8],
+    checks: &[u8],
+    output: &mut [u8],
+) -> (u32, u32) {
     if !(1..=32).contains(&n) {
-        return 1;
+        return (1, 0);
     }
     if (n - 1) / 3 < t {
-        return 2;
+        return (2, 0);
     }
     if !(1..=8).contains(&w) {
-        return 3;
+        return (3, 0);
     }
     let (n, t, w) = (n as usize, t as usize, w as usize);
     if vector.len() != n * w || checks.len() != 2 * t * w || output.len() < n * w {
-        return 18;
+        return (18, 0);
     }
     let mut repaired = [0; 256];
+    let mut changed = 0;
     for p in 0..w {
         let mut word = [0; 52];
         for k in 0..n {
@@ -185,13 +197,14 @@ pub fn repair(n: u32, t: u32, w: u32, vector: &[u8], checks: &[u8], output: &mut
         for c in 0..2 * t {
             word[n + c] = checks[c * w + p];
         }
-        if !repair_plane(n, t, &mut word[..n + 2 * t]) {
-            return 256;
-        }
+        let Some(in_plane) = repair_plane(n, t, &mut word[..n + 2 * t]) else {
+            return (256, 0);
+        };
+        changed |= in_plane;
         for k in 0..n {
             repaired[k * w + p] = word[k];
         }
     }
     output[..n * w].copy_from_slice(&repaired[..n * w]);
-    0
+    (0, changed.count_ones())
 }

@@ -1,7 +1,7 @@
 //! A column's record to the byte: what opening, taking and closing leave in it, and what a result call answers. Bytes that hold nothing
 //! are 0. Refusals are those of the table, and what a closing finds is the other model's; here stands where it is written.
 
-use crate::exchange::{Model, Value};
+use crate::exchange::{Model, Told, Value};
 use crate::frames::command_of;
 use crate::refusals::{Call, Case, answer, count_after};
 
@@ -31,6 +31,8 @@ pub struct Record {
     pub agreed: Vec<u8>,
     pub values: Vec<u8>,
     pub confidences: Vec<u8>,
+    pub told_two: Vec<u8>,
+    pub told_three: Vec<u8>,
     pub round: u32,
     pub refused: u32,
 }
@@ -40,6 +42,11 @@ fn padded(bytes: &[u8], room: usize) -> Vec<u8> {
     let mut padded = bytes.to_vec();
     padded.resize(room, 0);
     padded
+}
+
+fn told_bytes(told: &[Told]) -> Vec<u8> {
+    let bytes: Vec<u8> = told.iter().map(|told| told.byte()).collect();
+    padded(&bytes, COLUMNS)
 }
 
 fn empty_slots() -> Vec<Slot> {
@@ -63,6 +70,8 @@ impl Record {
             agreed: vec![0; COLUMNS * VALUE],
             values: vec![0; COLUMNS * VALUE],
             confidences: vec![0; COLUMNS],
+            told_two: vec![0; COLUMNS],
+            told_three: vec![0; COLUMNS],
             round: 0,
             refused: 0,
         }
@@ -136,7 +145,8 @@ impl Record {
         answered
     }
 
-    /// Closing writes V, Y, or values and confidences. Every slot has then what came early, whatever it is, and nothing is early any more.
+    /// Closing writes V, Y, or values and confidences, and what round two or three told. Every slot has then what came early, whatever it
+    /// is, and nothing is early any more.
     pub fn close(&mut self) -> u32 {
         let answered = answer(Call::Close, &self.case(0, &[]));
         if answered != 0 {
@@ -146,12 +156,16 @@ impl Record {
         column.close();
         match self.round {
             1 => self.heard = padded(&column.heard.concat(), COLUMNS * VALUE),
-            2 => self.agreed = padded(&column.agreed.concat(), COLUMNS * VALUE),
+            2 => {
+                self.agreed = padded(&column.agreed.concat(), COLUMNS * VALUE);
+                self.told_two = told_bytes(&column.told_two);
+            }
             _ => {
                 let (values, confidences): (Vec<Value>, Vec<u8>) =
                     column.held.iter().cloned().unzip();
                 self.values = padded(&values.concat(), COLUMNS * VALUE);
                 self.confidences = padded(&confidences, COLUMNS);
+                self.told_three = told_bytes(&column.told_three);
             }
         }
         self.slots = std::mem::replace(&mut self.early, empty_slots());
@@ -159,18 +173,21 @@ impl Record {
         0
     }
 
-    /// The answer, the values and the confidences.
-    pub fn result(&self) -> (u32, Vec<u8>, Vec<u8>) {
+    /// The answer; the values, the confidences, and what rounds two and three told.
+    pub fn result(&self) -> (u32, [Vec<u8>; 4]) {
         let answered = answer(Call::Result, &self.case(0, &[]));
         let (size, count) = match answered {
             0 => ((self.n * self.w) as usize, self.n as usize),
             _ => (0, 0),
         };
-        (
-            answered,
+        let of_each = |bytes: &[u8]| padded(&bytes[..count], COLUMNS);
+        let found = [
             padded(&self.values[..size], COLUMNS * VALUE),
-            padded(&self.confidences[..count], COLUMNS),
-        )
+            of_each(&self.confidences),
+            of_each(&self.told_two),
+            of_each(&self.told_three),
+        ];
+        (answered, found)
     }
 
     /// What the record says of a column whose settings pass: what stands behind n columns and w bytes says nothing, and what came early
@@ -197,6 +214,8 @@ impl Record {
             heard: values(&self.heard),
             agreed: values(&self.agreed),
             held: vec![],
+            told_two: vec![],
+            told_three: vec![],
         }
     }
 }

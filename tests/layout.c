@@ -20,12 +20,14 @@ STANDS(sajowemi_identity, own, 18);
 SIZE(sajowemi_slot, 165);
 STANDS(sajowemi_slot, taken, 0);
 STANDS(sajowemi_slot, bytes, 1);
-SIZE(sajowemi_findings, 800);
+SIZE(sajowemi_findings, 864);
 STANDS(sajowemi_findings, heard, 0);
 STANDS(sajowemi_findings, agreed, 256);
 STANDS(sajowemi_findings, values, 512);
 STANDS(sajowemi_findings, confidences, 768);
-SIZE(sajowemi_column, 11396);
+STANDS(sajowemi_findings, told_two, 800);
+STANDS(sajowemi_findings, told_three, 832);
+SIZE(sajowemi_column, 11460);
 _Static_assert(_Alignof(struct sajowemi_column) == 4, "alignment");
 STANDS(sajowemi_column, who, 0);
 STANDS(sajowemi_column, slots, 28);
@@ -35,19 +37,27 @@ STANDS(sajowemi_column, found.heard, 10588);
 STANDS(sajowemi_column, found.agreed, 10844);
 STANDS(sajowemi_column, found.values, 11100);
 STANDS(sajowemi_column, found.confidences, 11356);
-STANDS(sajowemi_column, round, 11388);
-STANDS(sajowemi_column, refused, 11392);
-SIZE(sajowemi_outcome, 11400);
+STANDS(sajowemi_column, found.told_two, 11388);
+STANDS(sajowemi_column, found.told_three, 11420);
+STANDS(sajowemi_column, round, 11452);
+STANDS(sajowemi_column, refused, 11456);
+SIZE(sajowemi_outcome, 11464);
 STANDS(sajowemi_outcome, answer, 0);
 STANDS(sajowemi_outcome, column, 4);
-SIZE(sajowemi_holdings, 292);
+SIZE(sajowemi_holdings, 356);
 STANDS(sajowemi_holdings, answer, 0);
 STANDS(sajowemi_holdings, values, 4);
 STANDS(sajowemi_holdings, confidences, 260);
+STANDS(sajowemi_holdings, told_two, 292);
+STANDS(sajowemi_holdings, told_three, 324);
 SIZE(sajowemi_level, 24);
 STANDS(sajowemi_level, answer, 0);
 STANDS(sajowemi_level, level, 8);
 STANDS(sajowemi_level, correction, 16);
+SIZE(sajowemi_repaired, 8);
+STANDS(sajowemi_repaired, answer, 0);
+STANDS(sajowemi_repaired, changed, 4);
+_Static_assert(SAJOWEMI_TOLD_MISSING == 254 && SAJOWEMI_TOLD_NONE == 255, "marks");
 
 static uint32_t number_at(const struct sajowemi_column *column, size_t at) {
     uint32_t number;
@@ -55,13 +65,15 @@ static uint32_t number_at(const struct sajowemi_column *column, size_t at) {
     return number;
 }
 
-/* Opening, taking, refusing and closing write each field where the numbers above say. */
+/* Opening, taking, refusing and closing write each field where the numbers above say. In round two only column 4 is heard, and its checks
+ * fit nothing; in round three nobody is. */
 static void written(void) {
     const uint8_t own[] = {61, 62, 63};
     const uint8_t frame[] = {0x11, 4, 0x12, 0x34, 71, 72, 73};
     const uint8_t checks[] = {0x22, 4, 0x12, 0x34, 1, 2, 3, 4, 5, 6, 7, 8, 9, 10, 11, 12};
-    const size_t at[] = {0, 4, 8, 12, 11388, 11392};
+    const size_t at[] = {0, 4, 8, 12, 11452, 11456};
     const uint32_t expected[] = {7, 2, 3, 5, 1, 0};
+    const uint8_t untold[64] = {0}, two[32] = {254, 254, 254, 255, 0, 254, 254}, three[32] = {254, 254, 254, 254, 0, 254, 254};
     struct sajowemi_outcome outcome = sajowemi_open(7, 2, 3, 5, 0x1234, own, 3);
     const uint8_t *bytes = (const uint8_t *)&outcome.column;
     const size_t slot = 28 + 3 * 165, early = 5308 + 3 * 165;
@@ -79,17 +91,22 @@ static void written(void) {
     assert(bytes[early] == 1 && memcmp(bytes + early + 1, checks, sizeof checks) == 0);
     assert(memcmp(bytes + slot + 1, frame, sizeof frame) == 0);
     outcome = sajowemi_take(outcome.column, 4, frame, sizeof frame);
-    assert(outcome.answer == SAJOWEMI_REPEATED && number_at(&outcome.column, 11392) == 1);
+    assert(outcome.answer == SAJOWEMI_REPEATED && number_at(&outcome.column, 11456) == 1);
     outcome = sajowemi_close(outcome.column);
-    assert(outcome.answer == SAJOWEMI_DONE && number_at(&outcome.column, 11388) == 2);
+    assert(outcome.answer == SAJOWEMI_DONE && number_at(&outcome.column, 11452) == 2);
     assert(memcmp(bytes + 10588 + 9, frame + 4, 3) == 0 && memcmp(bytes + 10588 + 12, own, 3) == 0);
     assert(bytes[slot] == 1 && memcmp(bytes + slot + 1, checks, sizeof checks) == 0 && bytes[early] == 0);
+    assert(memcmp(bytes + 11388, untold, 64) == 0);
+    outcome = sajowemi_close(outcome.column);
+    assert(memcmp(bytes + 11388, two, 32) == 0 && memcmp(bytes + 11420, untold, 32) == 0);
+    outcome = sajowemi_close(outcome.column);
+    assert(memcmp(bytes + 11388, two, 32) == 0 && memcmp(bytes + 11420, three, 32) == 0);
 }
 
 /* Sending and asking read each field where the numbers above say. */
 static void read(void) {
     const uint8_t own[] = {61, 62, 63};
-    const uint8_t expected[] = {0x11, 5, 0x12, 0x34, 61, 62, 63};
+    const uint8_t expected[] = {0x11, 5, 0x12, 0x34, 61, 62, 63}, nobody[25] = {0};
     struct sajowemi_column column = sajowemi_open(7, 2, 3, 5, 0x1234, own, 3).column;
     struct sajowemi_holdings held;
     uint8_t *bytes = (uint8_t *)&column;
@@ -98,12 +115,14 @@ static void read(void) {
     assert(sajowemi_send(column, frame, sizeof frame) == SAJOWEMI_DONE);
     assert(memcmp(frame, expected, sizeof frame) == 0);
     column.round = 4;
-    for (size_t at = 11100; at < 11388; at++)
-        bytes[at] = (uint8_t)at;
+    for (size_t at = 11100; at < 11452; at++)
+        bytes[at] = (uint8_t)(at % 251); /* no two fields alike */
     held = sajowemi_result(column);
     assert(held.answer == SAJOWEMI_DONE);
     assert(memcmp(held.values, bytes + 11100, 21) == 0);
     assert(memcmp(held.confidences, bytes + 11356, 7) == 0);
+    assert(memcmp(held.told_two, bytes + 11388, 7) == 0 && memcmp(held.told_two + 7, nobody, 25) == 0);
+    assert(memcmp(held.told_three, bytes + 11420, 7) == 0 && memcmp(held.told_three + 7, nobody, 25) == 0);
 }
 
 /* A column alone ends with its own value: Y is written in round two, values and confidences in round three. */
@@ -132,11 +151,23 @@ static void levelled(void) {
     assert(level.answer == SAJOWEMI_DONE && level.level == -4 && level.correction == 1);
 }
 
+/* Repair hands back its answer and its count side by side: one place changed, and none near. */
+static void repaired(void) {
+    const uint8_t vector[] = {241, 86, 35, 35}, near[] = {0, 136}, far[] = {22, 77};
+    uint8_t output[4];
+    struct sajowemi_repaired repaired = sajowemi_repair(4, 1, 1, vector, 4, near, 2, output, 4);
+
+    assert(repaired.answer == SAJOWEMI_DONE && repaired.changed == 1);
+    repaired = sajowemi_repair(4, 1, 1, vector, 4, far, 2, output, 4);
+    assert(repaired.answer == SAJOWEMI_NONE && repaired.changed == 0);
+}
+
 int main(void) {
     written();
     read();
     ended();
     levelled();
+    repaired();
     puts("layout: the structs stand in C as the compiled calls read and write them");
     return 0;
 }

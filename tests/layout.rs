@@ -5,7 +5,7 @@ mod archive;
 #[path = "shared/record.rs"]
 mod record;
 
-use archive::{Column, Findings, Holdings, Identity, Level, Outcome, Slot};
+use archive::{Column, Findings, Holdings, Identity, Level, Outcome, Repaired, Slot};
 use core::mem::{align_of, offset_of, size_of};
 use record::{bytes_at, bytes_at_mut};
 
@@ -17,35 +17,41 @@ const _: () = {
     assert!(offset_of!(Identity, run) == 16 && offset_of!(Identity, own) == 18);
     assert!(size_of::<Slot>() == 165 && align_of::<Slot>() == 1);
     assert!(offset_of!(Slot, taken) == 0 && offset_of!(Slot, bytes) == 1);
-    assert!(size_of::<Findings>() == 800 && align_of::<Findings>() == 1);
+    assert!(size_of::<Findings>() == 864 && align_of::<Findings>() == 1);
     assert!(offset_of!(Findings, heard) == 0 && offset_of!(Findings, agreed) == 256);
     assert!(offset_of!(Findings, values) == 512 && offset_of!(Findings, confidences) == 768);
-    assert!(size_of::<Column>() == 11396 && align_of::<Column>() == 4);
+    assert!(offset_of!(Findings, told_two) == 800 && offset_of!(Findings, told_three) == 832);
+    assert!(size_of::<Column>() == 11460 && align_of::<Column>() == 4);
     assert!(offset_of!(Column, who) == 0 && offset_of!(Column, slots) == 28);
     assert!(offset_of!(Column, early) == 5308 && offset_of!(Column, found) == 10588);
-    assert!(offset_of!(Column, round) == 11388 && offset_of!(Column, refused) == 11392);
+    assert!(offset_of!(Column, round) == 11452 && offset_of!(Column, refused) == 11456);
     assert!(
-        size_of::<Outcome>() == 11400
+        size_of::<Outcome>() == 11464
             && offset_of!(Outcome, answer) == 0
             && offset_of!(Outcome, column) == 4
     );
-    assert!(size_of::<Holdings>() == 292 && offset_of!(Holdings, answer) == 0);
+    assert!(size_of::<Holdings>() == 356 && offset_of!(Holdings, answer) == 0);
     assert!(offset_of!(Holdings, values) == 4 && offset_of!(Holdings, confidences) == 260);
+    assert!(offset_of!(Holdings, told_two) == 292 && offset_of!(Holdings, told_three) == 324);
     assert!(size_of::<Level>() == 24 && offset_of!(Level, answer) == 0);
     assert!(offset_of!(Level, level) == 8 && offset_of!(Level, correction) == 16);
+    assert!(size_of::<Repaired>() == 8 && align_of::<Repaired>() == 4);
+    assert!(offset_of!(Repaired, answer) == 0 && offset_of!(Repaired, changed) == 4);
+    assert!(archive::TOLD_MISSING == 254 && archive::TOLD_NONE == 255);
 };
 
 fn number_at(column: &Column, at: usize) -> u32 {
     u32::from_ne_bytes(bytes_at(column, at, at + 4).try_into().unwrap())
 }
 
-/// Opening, taking, refusing and closing write each field where the numbers above say.
+/// Opening, taking, refusing and closing write each field where the numbers above say. In round two only column 4 is heard, and its checks
+/// fit nothing; in round three nobody is.
 fn written() {
     let opened = archive::open(7, 2, 3, 5, 0x1234, &[61, 62, 63]);
     let column = opened.column;
     assert_eq!(opened.answer, 0);
     assert_eq!(
-        [0, 4, 8, 12, 11388, 11392].map(|at| number_at(&column, at)),
+        [0, 4, 8, 12, 11452, 11456].map(|at| number_at(&column, at)),
         [7, 2, 3, 5, 1, 0]
     );
     assert_eq!(bytes_at(&column, 16, 18), 0x1234u16.to_ne_bytes());
@@ -56,7 +62,7 @@ fn written() {
     assert_eq!(bytes_at(&taken, slot, slot + 1), [1]);
     assert_eq!(bytes_at(&taken, slot + 1, slot + 8), frame);
     assert_eq!(
-        number_at(&archive::take(&taken, 4, &frame).column, 11392),
+        number_at(&archive::take(&taken, 4, &frame).column, 11456),
         1
     );
     let checks = [0x22, 4, 0x12, 0x34, 1, 2, 3, 4, 5, 6, 7, 8, 9, 10, 11, 12];
@@ -66,7 +72,7 @@ fn written() {
     assert_eq!(bytes_at(&ahead, early + 1, early + 17), checks);
     assert_eq!(bytes_at(&ahead, slot + 1, slot + 8), frame);
     let heard = archive::close(&ahead).column;
-    assert_eq!(number_at(&heard, 11388), 2);
+    assert_eq!(number_at(&heard, 11452), 2);
     assert_eq!(
         bytes_at(&heard, 10588 + 9, 10588 + 15),
         [71, 72, 73, 61, 62, 63]
@@ -74,6 +80,17 @@ fn written() {
     assert_eq!(bytes_at(&heard, slot, slot + 1), [1]);
     assert_eq!(bytes_at(&heard, slot + 1, slot + 17), checks);
     assert_eq!(bytes_at(&heard, early, early + 1), [0]);
+    assert_eq!(bytes_at(&heard, 11388, 11452), [0; 64]);
+    let agreed = archive::close(&heard).column;
+    let two = [254, 254, 254, 255, 0, 254, 254];
+    assert_eq!(bytes_at(&agreed, 11388, 11395), two);
+    assert_eq!(bytes_at(&agreed, 11395, 11452), [0; 57]);
+    let ended = archive::close(&agreed).column;
+    let three = [254, 254, 254, 254, 0, 254, 254];
+    assert_eq!(bytes_at(&ended, 11388, 11395), two);
+    assert_eq!(bytes_at(&ended, 11395, 11420), [0; 25]);
+    assert_eq!(bytes_at(&ended, 11420, 11427), three);
+    assert_eq!(bytes_at(&ended, 11427, 11452), [0; 25]);
 }
 
 /// Sending and asking read each field where the numbers above say.
@@ -83,16 +100,19 @@ fn read() {
     assert_eq!(archive::send(&column, &mut frame), 0);
     assert_eq!(frame, [0x11, 5, 0x12, 0x34, 61, 62, 63]);
     column.round = 4;
-    for (k, byte) in bytes_at_mut(&mut column, 11100, 11388)
+    for (k, byte) in bytes_at_mut(&mut column, 11100, 11452)
         .iter_mut()
         .enumerate()
     {
-        *byte = k as u8 ^ 0x5a;
+        *byte = (k % 251) as u8 ^ 0x5a; // no two fields alike
     }
     let held = archive::result(&column);
     assert_eq!(held.answer, 0);
     assert_eq!(held.values[..21], *bytes_at(&column, 11100, 11121));
     assert_eq!(held.confidences[..7], *bytes_at(&column, 11356, 11363));
+    assert_eq!(held.told_two[..7], *bytes_at(&column, 11388, 11395));
+    assert_eq!(held.told_three[..7], *bytes_at(&column, 11420, 11427));
+    assert_eq!([&held.told_two[7..], &held.told_three[7..]], [&[0; 25]; 2]);
 }
 
 /// A column alone ends with its own value: Y is written in round two, values and confidences in round three.
@@ -123,10 +143,20 @@ fn levelled() {
     assert_eq!((level.answer, level.level, level.correction), (0, -4, 1));
 }
 
+/// Repair hands back its answer and its count side by side: one place changed, and none near.
+fn repaired() {
+    for (checks, answered) in [([0, 136], (0, 1)), ([22, 77], (256, 0))] {
+        let Repaired { answer, changed } =
+            archive::repair(4, 1, 1, &[241, 86, 35, 35], &checks, &mut [0; 4]);
+        assert_eq!((answer, changed), answered);
+    }
+}
+
 fn main() {
     written();
     read();
     ended();
     levelled();
+    repaired();
     println!("layout: the structs stand in Rust as the compiled calls read and write them");
 }

@@ -88,10 +88,13 @@ static void code(struct settings s, int vector_off, int checks_off, int output_o
     size_t output_length = (size_t)(vector_right + output_off);
     uint8_t *vector = block(vector_length), *checks = block(checks_length), *output = block(output_length);
     int right = vector_off == 0 && checks_off == 0 && output_off >= 0;
+    struct sajowemi_repaired repaired;
     uint32_t answer;
 
-    answer = sajowemi_repair(s.n, s.t, s.w, vector, vector_length, checks, checks_length, output, output_length);
+    repaired = sajowemi_repair(s.n, s.t, s.w, vector, vector_length, checks, checks_length, output, output_length);
+    answer = repaired.answer;
     assert(right ? answer == SAJOWEMI_DONE || answer == SAJOWEMI_NONE : answer == SAJOWEMI_CODE_LENGTH);
+    assert(answer == SAJOWEMI_DONE || repaired.changed == 0);
     assert(is_kept(output, answer == SAJOWEMI_DONE ? (size_t)vector_right : 0, output_length));
     answer = sajowemi_check_values(s.n, s.t, s.w, vector, vector_length, checks, checks_length);
     assert(answer == (vector_off == 0 && checks_off >= 0 ? SAJOWEMI_DONE : SAJOWEMI_CODE_LENGTH));

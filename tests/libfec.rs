@@ -1,5 +1,6 @@
-//! Check values and repair of the compiled library beside libfec, set to this field and these roots: random settings and vectors,
-//! none to t + 3 wrong places in each plane, also in the checks alone or at other places in each plane. The first difference ends the run.
+//! Check values and repair of the compiled library beside libfec, set to this field and these roots: random settings and vectors, none to
+//! t + 3 wrong places in each plane, the same in every plane or others in each, in a quarter of the inputs in the checks alone. Compared
+//! are answers, lent bytes, and how many places repair changed with how many libfec says it corrected. The first difference ends the run.
 
 #[path = "../rust/src/archive.rs"]
 mod archive;
@@ -37,15 +38,21 @@ fn same<T: PartialEq + std::fmt::Debug>(what: &str, input: &Input, ours: T, thei
     }
 }
 
-/// Spoils so many places of a plane, in columns and checks or in the checks alone.
-fn spoil(input: &mut Input, plane: usize, wrong: usize, from: usize, chance: &mut Chance) {
-    let Input { n, t, w, .. } = *input;
-    let mut places: Vec<usize> = (from..n + 2 * t).collect();
-    for _ in 0..wrong.min(places.len()) {
-        let place = places.swap_remove(chance.below(places.len() as u64) as usize);
-        let byte = match place.checked_sub(n) {
-            None => &mut input.vector[place * w + plane],
-            Some(check) => &mut input.checks[check * w + plane],
+/// So many of the places from the first one on, or all where there are fewer: the columns, then the checks.
+fn some_places(input: &Input, first: usize, count: usize, chance: &mut Chance) -> Vec<usize> {
+    let mut places: Vec<usize> = (first..input.n + 2 * input.t).collect();
+    for k in (1..places.len()).rev() {
+        places.swap(k, chance.below(k as u64 + 1) as usize);
+    }
+    places.truncate(count);
+    places
+}
+
+fn spoil(input: &mut Input, plane: usize, places: &[usize], chance: &mut Chance) {
+    for place in places {
+        let byte = match place.checked_sub(input.n) {
+            None => &mut input.vector[place * input.w + plane],
+            Some(check) => &mut input.checks[check * input.w + plane],
         };
         *byte ^= 1 + chance.below(255) as u8;
     }
@@ -73,10 +80,15 @@ fn input(coders: &libfec::Coders, chance: &mut Chance) -> Input {
         (answer, &input.checks),
         (0, &theirs),
     );
-    let from = if chance.one_in(4) { n } else { 0 };
+    let first = if chance.one_in(4) { n } else { 0 };
     let wrong = chance.below(t as u64 + 4) as usize;
+    let same_in_all = chance.one_in(2);
+    let mut places = some_places(&input, first, wrong, chance);
     for plane in 0..w {
-        spoil(&mut input, plane, wrong, from, chance);
+        if !same_in_all {
+            places = some_places(&input, first, wrong, chance);
+        }
+        spoil(&mut input, plane, &places, chance);
     }
     if chance.one_in(16) {
         chance.fill(&mut input.checks);
@@ -86,7 +98,7 @@ fn input(coders: &libfec::Coders, chance: &mut Chance) -> Input {
 
 fn main() {
     let (coders, mut chance) = (libfec::Coders::new(), Chance::new(3));
-    let mut none = 0;
+    let (mut none, mut unchanged, mut to_t, mut above_t) = (0, 0, 0, 0);
     for _ in 0..INPUTS {
         let input = input(&coders, &mut chance);
         let Input {
@@ -99,12 +111,20 @@ fn main() {
         let (mut ours, mut theirs) = ([0xa5; 300], [0xa5; 300]);
         let room = n * w + chance.below(20) as usize;
         let (n_, t_, w_) = (n as u32, t as u32, w as u32);
-        let answer = archive::repair(n_, t_, w_, vector, checks, &mut ours[..room]);
-        let their_answer = coders.repair(n, t, w, vector, checks, &mut theirs[..room]);
+        let archive::Repaired { answer, changed } =
+            archive::repair(n_, t_, w_, vector, checks, &mut ours[..room]);
+        let (their_answer, corrected) = coders.repair(n, t, w, vector, checks, &mut theirs[..room]);
         same("repair", &input, (answer, ours), (their_answer, theirs));
-        none += u32::from(answer == NONE);
+        same("the places changed", &input, changed, corrected);
+        match changed {
+            _ if answer == NONE => none += 1,
+            0 => unchanged += 1,
+            _ if changed <= t_ => to_t += 1,
+            _ => above_t += 1,
+        }
     }
     println!(
-        "libfec: {INPUTS} vectors have the same check values and are repaired alike, {none} of them as none"
+        "libfec: {INPUTS} vectors have the same check values and are repaired alike: {none} as none, {unchanged} with no place changed, \
+         {to_t} with 1 to t, {above_t} with more than t over their planes"
     );
 }

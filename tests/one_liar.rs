@@ -1,5 +1,6 @@
 //! Four columns, one of which lies: every pair of check bytes that it can send in rounds two and three, to every reader. Repair is compared with
-//! a list of all vectors within one place, by the definition, and the three promises are asserted over all that the readers may end with.
+//! a list of all vectors within one place, by the definition, and what is told of each sender with how far off its vector is in that list.
+//! The three promises are asserted over all that the readers may end with, and that a good sender is never more than one place off.
 
 #[path = "../rust/src/archive.rs"]
 mod archive;
@@ -29,32 +30,53 @@ type Vector = [u8; 4];
 /// Of each column its value and confidence.
 type Beliefs = [(u8, u8); 4];
 
-/// For every pair of check bytes, the vector that it repairs this one to: all that differ in at most one of six places.
-fn repairs(vector: Vector) -> Vec<Option<Vector>> {
-    let mut repaired = vec![None; 65536];
-    let mut put = |checks: [u8; 2], near: Vector| {
+/// A row of a table, and what is told of its sender: how many places were changed, or a mark.
+#[derive(Clone, Copy, Debug, PartialEq)]
+struct Row {
+    vector: Vector,
+    told: u8,
+}
+
+const MISSING: Row = Row {
+    vector: [0; 4],
+    told: 254,
+};
+const NONE: Row = Row {
+    vector: [0; 4],
+    told: 255,
+};
+
+/// For every pair of check bytes, the row that it repairs this vector to: all that differ in at most one of six places.
+fn repairs(vector: Vector) -> Vec<Row> {
+    let mut repaired = vec![NONE; 65536];
+    let mut put = |checks: [u8; 2], near: Vector, told: u8| {
         let place = &mut repaired[u16::from_be_bytes(checks) as usize];
         assert!(
-            place.is_none(),
+            *place == NONE,
             "two vectors are near: {place:?} and {near:?}"
         );
-        *place = Some(near);
+        *place = Row { vector: near, told };
     };
     let own: [u8; 2] = division::check_values(&vector, 1, 1).try_into().unwrap();
-    put(own, vector);
+    put(own, vector, 0);
     for change in 1..=255 {
-        put([own[0] ^ change, own[1]], vector);
-        put([own[0], own[1] ^ change], vector);
+        put([own[0] ^ change, own[1]], vector, 1);
+        put([own[0], own[1] ^ change], vector, 1);
         for k in 0..4 {
             let mut near = vector;
             near[k] ^= change;
-            put(
-                division::check_values(&near, 1, 1).try_into().unwrap(),
-                near,
-            );
+            let checks = division::check_values(&near, 1, 1);
+            put(checks.try_into().unwrap(), near, 1);
         }
     }
     repaired
+}
+
+/// What a table's rows tell, as a record has it.
+fn told_by(table: &[Row; 4]) -> [u8; 32] {
+    let mut told = [0; 32];
+    told[..4].copy_from_slice(&table.map(|row| row.told));
+    told
 }
 
 fn times(column: &[u8], value: u8) -> usize {
@@ -62,9 +84,9 @@ fn times(column: &[u8], value: u8) -> usize {
 }
 
 /// Y at k: found three times of four, or blank.
-fn agreed(table: &[Vector; 4]) -> Vector {
+fn agreed(table: &[Row; 4]) -> Vector {
     [0, 1, 2, 3].map(|k| {
-        let column = table.map(|row| row[k]);
+        let column = table.map(|row| row.vector[k]);
         column
             .into_iter()
             .find(|value| times(&column, *value) >= 3)
@@ -73,9 +95,9 @@ fn agreed(table: &[Vector; 4]) -> Vector {
 }
 
 /// The most often found value at k, blank left out, the smallest on a tie: 2 where it is found three times, 1 where twice.
-fn held(table: &[Vector; 4]) -> Beliefs {
+fn held(table: &[Row; 4]) -> Beliefs {
     [0, 1, 2, 3].map(|k| {
-        let column = table.map(|row| row[k]);
+        let column = table.map(|row| row.vector[k]);
         let values = column.into_iter().filter(|value| *value != 0);
         let most = values.max_by_key(|value| (times(&column, *value), 255 - value));
         match most.map_or(0, |most| times(&column, most)) {
@@ -122,21 +144,25 @@ fn after_values(told: [u8; 3]) -> [Column; 3] {
     })
 }
 
-/// A reader with the frames of the good columns taken, and every row of its table but the liar's.
+/// A reader with the frames of the good columns taken, and its table without the liar's row.
 fn with_good_frames(
     columns: &[Column; 3],
     reader: usize,
     own: Vector,
-    repaired: &[Option<Vector>],
-) -> (Column, [Vector; 4]) {
+    repaired: &[Row],
+) -> (Column, [Row; 4]) {
     let mut column = columns[reader];
-    let mut table = [own; 4];
+    let mut table = [MISSING; 4];
+    table[reader] = Row {
+        vector: own,
+        told: 0,
+    };
     for sender in (0..3).filter(|sender| *sender != reader) {
         let mut sent = [0; 6];
         assert_eq!(archive::send(&columns[sender], &mut sent), 0, "sending");
         column = take(&column, sender as u32 + 1, &sent);
-        table[sender] =
-            repaired[usize::from(sent[4]) << 8 | usize::from(sent[5])].unwrap_or_default();
+        table[sender] = repaired[usize::from(sent[4]) << 8 | usize::from(sent[5])];
+        assert!(table[sender].told <= 1, "told of a good column");
     }
     (column, table)
 }
@@ -146,15 +172,14 @@ fn every_closing(
     columns: &[Column; 3],
     reader: usize,
     own: Vector,
-    mut compare: impl FnMut(&Column, &[Vector; 4]),
+    mut compare: impl FnMut(&Column, &[Row; 4]),
 ) -> u64 {
     let repaired = repairs(own);
     let (column, mut table) = with_good_frames(columns, reader, own, &repaired);
-    table[3] = [0; 4];
     compare(&close(&column), &table);
     let command = command_of(column.round);
     for pair in 0..=65535u16 {
-        table[3] = repaired[usize::from(pair)].unwrap_or_default();
+        table[3] = repaired[usize::from(pair)];
         let lie = frame(command, LIAR, RUN, &pair.to_be_bytes());
         compare(&close(&take(&column, LIAR.into(), &lie)), &table);
     }
@@ -173,6 +198,12 @@ fn every_agreed(columns: &[Column; 3], reader: usize) -> (u64, Vec<Column>) {
                 vector(&column.found.agreed),
                 agreed(table),
                 "Y of column {}",
+                reader + 1
+            );
+            assert_eq!(
+                (column.found.told_two, column.found.told_three),
+                (told_by(table), [0; 32]),
+                "what round two told column {}",
                 reader + 1
             );
             ends.entry(agreed(table)).or_insert(*column);
@@ -195,6 +226,12 @@ fn every_held(columns: &[Column; 3], reader: usize) -> (u64, Vec<Beliefs>) {
                 (result.answer, &ours),
                 (0, &beliefs),
                 "what column {} believes",
+                reader + 1
+            );
+            assert_eq!(
+                (result.told_two, result.told_three),
+                (columns[reader].found.told_two, told_by(table)),
+                "what rounds two and three told column {}",
                 reader + 1
             );
             ends.insert(ours, ours);

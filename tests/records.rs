@@ -58,6 +58,8 @@ fn laid_out(record: &Record) -> Column {
             agreed: record.agreed[..].try_into().unwrap(),
             values: record.values[..].try_into().unwrap(),
             confidences: record.confidences[..].try_into().unwrap(),
+            told_two: record.told_two[..].try_into().unwrap(),
+            told_three: record.told_three[..].try_into().unwrap(),
         },
         round: record.round,
         refused: record.refused,
@@ -91,6 +93,8 @@ fn read(column: &Column) -> Record {
         agreed: column.found.agreed.to_vec(),
         values: column.found.values.to_vec(),
         confidences: column.found.confidences.to_vec(),
+        told_two: column.found.told_two.to_vec(),
+        told_three: column.found.told_three.to_vec(),
         round: column.round,
         refused: column.refused,
     }
@@ -219,9 +223,14 @@ fn put_checks(chance: &mut Chance, column: &mut Column) {
         }
     }
     let mut shared = own[..n * w].to_vec();
-    for _ in 0..chance.below(t as u64 + 1) {
-        let at = chance.below((n * w) as u64) as usize;
-        shared[at] ^= chance.below(256) as u8;
+    // Up to t places of one plane, or of each, which may be the same places and may be more than t.
+    let plane = chance.below(w as u64) as usize;
+    let planes = chance.pick(&[(plane, plane + 1), (0, w)]);
+    for plane in planes.0..planes.1 {
+        for _ in 0..chance.below(t as u64 + 1) {
+            let k = chance.below(n as u64) as usize;
+            shared[k * w + plane] ^= chance.below(256) as u8;
+        }
     }
     let (agreeing, shared) = (
         division::check_values(&own[..n * w], t, w),
@@ -232,12 +241,27 @@ fn put_checks(chance: &mut Chance, column: &mut Column) {
         if !chance.one_in(random + 1) {
             let checks = if chance.one_in(2) { &agreeing } else { &shared };
             slot.bytes[4..4 + checks.len()].copy_from_slice(checks);
+            // A check may be the place that is wrong.
+            if t > 0 && chance.one_in(4) {
+                slot.bytes[4 + chance.below(checks.len() as u64) as usize] ^= 1;
+            }
         }
     }
 }
 
-fn closings(chance: &mut Chance) -> u32 {
-    let mut found = 0;
+/// What closings came to: how many found something, and of the senders how many were told as missing, as none, and by numbers above 0 and
+/// above t.
+#[derive(Default)]
+struct Closings {
+    found: u32,
+    missing: u32,
+    none: u32,
+    changed: u32,
+    above_t: u32,
+}
+
+fn closings(chance: &mut Chance) -> Closings {
+    let mut closings = Closings::default();
     for _ in 0..CLOSINGS {
         let mut column = made_by_hand(chance, 3);
         if column.round > 1 {
@@ -246,27 +270,42 @@ fn closings(chance: &mut Chance) -> u32 {
         let mut model = read(&column);
         let answer = model.close();
         same("closing", &archive::close(&column), answer, &model);
-        let written = match column.round {
-            1 => &model.heard,
-            2 => &model.agreed,
-            _ => &model.values,
+        let (written, told) = match column.round {
+            1 => (&model.heard, &[][..]),
+            2 => (&model.agreed, &model.told_two[..]),
+            _ => (&model.values, &model.told_three[..]),
         };
-        found += u32::from(written.iter().any(|byte| *byte != 0));
+        closings.found += u32::from(written.iter().any(|byte| *byte != 0));
+        for told in told {
+            match *told {
+                254 => closings.missing += 1,
+                255 => closings.none += 1,
+                places => {
+                    closings.changed += u32::from(places > 0);
+                    closings.above_t += u32::from(u32::from(places) > column.who.t);
+                }
+            }
+        }
     }
-    found
+    closings
 }
 
-/// Behind the n values and confidences of a record made by hand stand other bytes; behind those of its result, zeros.
+/// Behind what a record made by hand has of n columns stand other bytes; behind the same in its result, zeros.
 fn results(chance: &mut Chance) {
     for _ in 0..RESULTS {
         let mut column = made_by_hand(chance, 1);
         column.round = if chance.one_in(8) { 3 } else { 4 };
         let held = archive::result(&column);
-        let (answer, values, confidences) = read(&column).result();
+        let found = [
+            &held.values[..],
+            &held.confidences,
+            &held.told_two,
+            &held.told_three,
+        ];
         let Identity { n, t, w, .. } = column.who;
         assert_eq!(
-            (held.answer, &held.values[..], &held.confidences[..]),
-            (answer, &values[..], &confidences[..]),
+            (held.answer, found.map(<[u8]>::to_vec)),
+            read(&column).result(),
             "a result, n {n}, t {t}, w {w}"
         );
     }
@@ -276,10 +315,17 @@ fn main() {
     let mut chance = Chance::new(5);
     openings(&mut chance);
     let (taken, early) = frames(&mut chance);
-    let found = closings(&mut chance);
+    let Closings {
+        found,
+        missing,
+        none,
+        changed,
+        above_t,
+    } = closings(&mut chance);
     results(&mut chance);
     println!(
         "records: to the byte as the model has them: {OPENINGS} openings, {FRAMES} frames, {taken} of them taken, {early} of these early, \
-         {CLOSINGS} closings, {found} of them with something found, {RESULTS} results"
+         {CLOSINGS} closings, {found} of them with something found, {RESULTS} results; closings told {missing} senders as missing, {none} as \
+         none, {changed} by numbers above 0, {above_t} of these above t"
     );
 }

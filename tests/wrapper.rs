@@ -1,8 +1,9 @@
-//! The safe crate: an exchange of four good columns, every refusal it can name, the size of a frame against what `send` writes, and the
-//! texts, which are those of the C header.
+//! The safe crate: an exchange of four good columns, how far off senders were as a record has it, every refusal it can name, the size of a
+//! frame against what `send` writes, and the texts, which are those of the C header.
 
 use sajowemi::{
-    Column, LONGEST_FRAME, Level, Refusal, Repair, Settings, archive, check_values, repair,
+    Beliefs, Column, LONGEST_FRAME, Level, Refusal, Repair, Settings, Told, archive, check_values,
+    repair,
 };
 
 const FOUR: Settings = Settings { n: 4, t: 1, w: 1 };
@@ -41,11 +42,51 @@ fn exchange() {
             (beliefs.of(0), beliefs.of(5), column.refused()),
             (None, None, 9)
         );
+        for k in 1..=4 {
+            let agreeing = Some(Told::Changed(0));
+            assert_eq!(
+                (beliefs.told_two(k), beliefs.told_three(k)),
+                (agreeing, agreeing)
+            );
+        }
         assert_eq!(
             Column::from_record(*column.record()).close(),
             Err(Refusal::NoOpenRound)
         );
     }
+}
+
+/// Rounds two and three apart, each sender at its number, the marks by name, and nobody beside the group.
+fn told() {
+    let mut alone = Column::open(FOUR, 2, 7, &[9]).unwrap();
+    for _ in 1..=3 {
+        alone.close().unwrap();
+    }
+    let told_of = |beliefs: Beliefs| {
+        [0, 1, 2, 3, 4, 5, u32::MAX].map(|k| (beliefs.told_two(k), beliefs.told_three(k)))
+    };
+    let missing = (Some(Told::Missing), Some(Told::Missing));
+    let own = (Some(Told::Changed(0)), Some(Told::Changed(0)));
+    let nobody = (None, None);
+    assert_eq!(
+        told_of(alone.result().unwrap()),
+        [nobody, missing, own, missing, missing, nobody, nobody]
+    );
+    let mut record = *alone.record();
+    record.found.told_two[..5].copy_from_slice(&[3, 0, 254, 255, 7]);
+    record.found.told_three[..5].copy_from_slice(&[255, 1, 52, 253, 7]);
+    assert_eq!(
+        told_of(Column::from_record(record).result().unwrap()),
+        [
+            nobody,
+            (Some(Told::Changed(3)), Some(Told::Nothing)),
+            (Some(Told::Changed(0)), Some(Told::Changed(1))),
+            (Some(Told::Missing), Some(Told::Changed(52))),
+            (Some(Told::Nothing), Some(Told::Changed(253))),
+            nobody,
+            nobody
+        ]
+    );
 }
 
 fn level() {
@@ -83,9 +124,14 @@ fn code() {
     assert_eq!(output, [9; 5]);
     assert_eq!(
         repair(FOUR, &vector, &[0, 136], &mut output),
-        Ok(Repair::Repaired)
+        Ok(Repair::Repaired { changed: 1 })
     );
     assert_eq!(output, [241, 86, 129, 35, 9]);
+    assert_eq!(
+        repair(FOUR, &vector, &[39, 78], &mut output),
+        Ok(Repair::Repaired { changed: 0 })
+    );
+    assert_eq!(output, [241, 86, 35, 35, 9]);
     assert_eq!(
         repair(FOUR, &vector, &[0], &mut output),
         Err(Refusal::CodeLength)
@@ -209,6 +255,7 @@ fn texts() {
 
 fn main() {
     exchange();
+    told();
     level();
     code();
     refusals();

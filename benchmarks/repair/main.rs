@@ -83,11 +83,13 @@ fn input(
 
 struct Program<'a> {
     name: &'static str,
-    run: &'a dyn Fn(&Input, &mut [u8]) -> u32,
+    /// The answer, and how many places were changed: 0 for check values.
+    run: &'a dyn Fn(&Input, &mut [u8]) -> (u32, u32),
 }
 
+/// Asserts the same answer, count and output of all programs, and hands back the answer.
 fn assert_alike(programs: &[Program], input: &Input) -> u32 {
-    let answers: Vec<(u32, [u8; 300])> = programs
+    let answers: Vec<((u32, u32), [u8; 300])> = programs
         .iter()
         .map(|program| {
             let mut output = [0xa5; 300];
@@ -108,7 +110,7 @@ fn assert_alike(programs: &[Program], input: &Input) -> u32 {
             input.checks
         );
     }
-    answers[0].0
+    answers[0].0.0
 }
 
 fn median(mut times: Vec<f64>) -> f64 {
@@ -175,9 +177,10 @@ fn main() {
         Program {
             name: "this library",
             run: &|i, output| {
-                archive::repair(
+                let archive::Repaired { answer, changed } = archive::repair(
                     i.n as u32, i.t as u32, i.w as u32, &i.vector, &i.checks, output,
-                )
+                );
+                (answer, changed)
             },
         },
         Program {
@@ -197,19 +200,21 @@ fn main() {
         Program {
             name: "this library",
             run: &|i, output| {
-                archive::check_values(i.n as u32, i.t as u32, i.w as u32, &i.vector, output)
+                let answer =
+                    archive::check_values(i.n as u32, i.t as u32, i.w as u32, &i.vector, output);
+                (answer, 0)
             },
         },
         Program {
             name: "register",
-            run: &|i, output| register::check_values(i.n, i.t, i.w, &i.vector, output),
+            run: &|i, output| (register::check_values(i.n, i.t, i.w, &i.vector, output), 0),
         },
         Program {
             name: "libfec",
             run: &|i, output| {
                 let checks = coders.checks(i.n, i.t, i.w, &i.vector);
                 output[..checks.len()].copy_from_slice(&checks);
-                0
+                (0, 0)
             },
         },
     ];
@@ -229,7 +234,7 @@ fn main() {
         repaired += usize::from(assert_alike(&repairs, &input) == 0);
     }
     println!(
-        "{RANDOM} random inputs, all n, t, w, 0 to t + 3 wrong places in a plane: answered alike, {repaired} repaired, the others none"
+        "{RANDOM} random inputs, all n, t, w, 0 to t + 3 wrong places in a plane: answered alike, {repaired} repaired with as many places changed, the others none"
     );
     println!();
 

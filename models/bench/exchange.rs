@@ -85,7 +85,9 @@ fn tables(group: &Group, coder: &Coder, round: u8, own: &OfGood<Vector>) -> OfGo
         match checks.get(&from).or(group.sent.get(&(round, from, to))) {
             // the vector itself is the codeword, and no other is near
             Some(sent) if *sent == checks[&to] => own[&to].clone(),
-            Some(sent) => repaired(group, coder, &own[&to], sent).unwrap_or(blanks),
+            Some(sent) => {
+                repaired(group, coder, &own[&to], sent).map_or(blanks, |(vector, _)| vector)
+            }
             None => blanks,
         }
     };
@@ -93,11 +95,17 @@ fn tables(group: &Group, coder: &Coder, round: u8, own: &OfGood<Vector>) -> OfGo
     own.keys().map(table).collect()
 }
 
-/// The vector of the one codeword within t places of every plane. The equations find it; here it is looked at again.
-pub fn repaired(group: &Group, coder: &Coder, own: &[Value], checks: &[Value]) -> Option<Vector> {
+/// The vector of the one codeword within t places of every plane, and how many places it changes in some plane. The equations find both;
+/// here they are looked at again.
+pub fn repaired(
+    group: &Group,
+    coder: &Coder,
+    own: &[Value],
+    checks: &[Value],
+) -> Option<(Vector, usize)> {
     let [n, t, w] = [group.n, group.t, group.w].map(|setting| setting as u32);
     let mut bytes = vec![0; group.n * group.w];
-    let answer = linear::repair(n, t, w, &own.concat(), &checks.concat(), &mut bytes);
+    let (answer, counted) = linear::repair(n, t, w, &own.concat(), &checks.concat(), &mut bytes);
     if answer != 0 {
         return None;
     }
@@ -115,13 +123,19 @@ pub fn repaired(group: &Group, coder: &Coder, own: &[Value], checks: &[Value]) -
             "repaired in {wrong} places: {own:?} by {checks:?}"
         );
     }
-    Some(vector)
+    let changed = found.iter().zip(&given).filter(|(a, b)| a != b).count();
+    assert_eq!(
+        counted as usize, changed,
+        "places counted and changed: {own:?} by {checks:?}"
+    );
+    Some((vector, changed))
 }
 
 #[cfg(test)]
 mod tests {
     use super::*;
     use crate::draw::Draw;
+    use crate::group::read;
 
     fn group(n: usize, t: usize) -> Group {
         let (own, sent) = (BTreeMap::new(), BTreeMap::new());
@@ -134,33 +148,99 @@ mod tests {
         }
     }
 
-    fn four(own: [u8; 4], checks: [u8; 2]) -> Option<Vec<u8>> {
+    fn four(own: [u8; 4], checks: [u8; 2]) -> Option<(Vec<u8>, usize)> {
         let (own, checks) = (own.map(|b| vec![b]), checks.map(|b| vec![b]));
-        let vector = repaired(&group(4, 1), &Coder::new(4, 2), &own, &checks);
-        vector.map(|vector| vector.concat())
+        let repaired = repaired(&group(4, 1), &Coder::new(4, 2), &own, &checks);
+        repaired.map(|(vector, changed)| (vector.concat(), changed))
     }
 
     #[test]
     fn worked_repairs() {
         let own = [241, 86, 35, 35];
-        assert_eq!(four(own, [0, 136]), Some(vec![241, 86, 129, 35]));
-        assert_eq!(four(own, [22, 61]), Some(vec![241, 49, 35, 35]));
+        assert_eq!(four(own, [39, 78]), Some((own.to_vec(), 0)));
+        assert_eq!(four(own, [39, 79]), Some((own.to_vec(), 1)));
+        assert_eq!(four(own, [0, 136]), Some((vec![241, 86, 129, 35], 1)));
+        assert_eq!(four(own, [22, 61]), Some((vec![241, 49, 35, 35], 1)));
         assert_eq!(four(own, [22, 77]), None);
     }
 
-    /// Every change of at most one place tried: the vector of the one that makes a codeword.
-    fn by_trying(coder: &Coder, n: usize, word: &[Value]) -> Option<Vector> {
+    /// Column 1 is wrong in both planes, check 1 in the first, column 2 in the second: more than t places in all.
+    #[test]
+    fn places_count_once_over_planes() {
+        let settings = Group {
+            w: 2,
+            ..group(7, 2)
+        };
+        let coder = Coder::new(7, 4);
+        let right: Vector = (1..=7).map(|k| vec![k, 10 * k]).collect();
+        let (mut own, mut checks) = (right.clone(), coder.checks(&right));
+        (own[0], own[1]) = (vec![200, 201], vec![2, 202]);
+        checks[0][0] ^= 1;
+        let repaired = repaired(&settings, &coder, &own, &checks);
+        assert_eq!(repaired, Some((right, 3)));
+    }
+
+    /// Every change of at most one place tried: the vector of the one that makes a codeword, and how many places it changes.
+    fn by_trying(coder: &Coder, n: usize, word: &[Value]) -> Option<(Vector, usize)> {
         let is_codeword = |word: &[Value]| coder.checks(&word[..n]) == word[n..];
         for place in 0..word.len() {
             for change in 0..=255 {
                 let mut tried = word.to_vec();
                 tried[place][0] ^= change;
                 if is_codeword(&tried) {
-                    return Some(tried[..n].to_vec());
+                    return Some((tried[..n].to_vec(), usize::from(change != 0)));
                 }
             }
         }
         None
+    }
+
+    /// How many places each good column changes for each sender, in a round where no frame is missing and every vector is near.
+    fn changed_by_trying(
+        group: &Group,
+        coder: &Coder,
+        round: u8,
+        own: &OfGood<Vector>,
+    ) -> Vec<Vec<usize>> {
+        let changed = |reader: usize, from: usize| {
+            let checks = match own.get(&from) {
+                Some(vector) => coder.checks(vector),
+                None => group.sent[&(round, from, reader)].clone(),
+            };
+            let found = by_trying(coder, group.n, &[own[&reader].as_slice(), &checks].concat());
+            assert_eq!(repaired(group, coder, &own[&reader], &checks), found);
+            found.unwrap().1
+        };
+        let of_each = |&reader: &usize| (1..=group.n).map(|from| changed(reader, from)).collect();
+        own.keys().map(of_each).collect()
+    }
+
+    /// Column 3 alone has heard 40 of column 4: it is one place off the other two in round two, and in round three, where it has a blank.
+    #[test]
+    fn changed_places_in_the_exchange_of_004() {
+        let file = [
+            &[1, 4, 1, 1][..],
+            &[4, 1, 241],
+            &[4, 2, 86],
+            &[4, 3, 35],
+            &[2, 4, 1, 35],
+            &[2, 4, 2, 35],
+            &[2, 4, 3, 40],
+            &[3, 2, 4, 1, 22, 61],
+            &[3, 2, 4, 2, 0, 136],
+            &[3, 2, 4, 3, 121, 143],
+            &[3, 3, 4, 1, 87, 61],
+            &[3, 3, 4, 2, 87, 61],
+            &[3, 3, 4, 3, 123, 149],
+            &[15],
+        ];
+        let group = read(&file.concat()).unwrap();
+        let coder = Coder::new(4, 2);
+        let heard = heard(&group);
+        let agreed = agreed(&group, &coder, &heard);
+        let worked = [[0, 0, 1, 1], [0, 0, 1, 1], [1, 1, 0, 1]];
+        assert_eq!(changed_by_trying(&group, &coder, 2, &heard), worked);
+        assert_eq!(changed_by_trying(&group, &coder, 3, &agreed), worked);
     }
 
     #[test]

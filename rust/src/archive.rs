@@ -7,6 +7,10 @@ pub const MOST_COLUMNS: usize = 32;
 pub const VALUE_ROOM: usize = 8;
 /// Room for a value of every column.
 pub const VECTOR_ROOM: usize = MOST_COLUMNS * VALUE_ROOM;
+/// What a round told of a sender where it is no number of places: no frame of the sender's counted in that round.
+pub const TOLD_MISSING: u8 = 254;
+/// The same: the sender's check values fit no vector near.
+pub const TOLD_NONE: u8 = 255;
 
 /// Who a column is: its settings, own number, run and own value, zeros behind it.
 #[derive(Clone, Copy)]
@@ -28,7 +32,8 @@ pub struct Slot {
     pub bytes: [u8; LONGEST_FRAME],
 }
 
-/// What a column has found: V after round one, Y after two, values and confidences after three.
+/// What a column has found: V after round one, Y after two, values and confidences after three; and of each sender what rounds two and
+/// three told: how many places were changed when its row was repaired, 0 for the own row, or a mark. Zeros until that round is closed.
 #[derive(Clone, Copy)]
 #[repr(C)]
 pub struct Findings {
@@ -36,6 +41,8 @@ pub struct Findings {
     pub agreed: [u8; VECTOR_ROOM],
     pub values: [u8; VECTOR_ROOM],
     pub confidences: [u8; MOST_COLUMNS],
+    pub told_two: [u8; MOST_COLUMNS],
+    pub told_three: [u8; MOST_COLUMNS],
 }
 
 /// A column's record, with the frames of its round and those that came early, for the round that follows. Its bits may be anything: each
@@ -58,13 +65,15 @@ pub struct Outcome {
     pub column: Column,
 }
 
-/// The values and confidences of n columns, zeros behind them.
+/// The values and confidences of n columns and what rounds two and three told of them, zeros behind them.
 #[derive(Clone, Copy)]
 #[repr(C)]
 pub struct Holdings {
     pub answer: u32,
     pub values: [u8; VECTOR_ROOM],
     pub confidences: [u8; MOST_COLUMNS],
+    pub told_two: [u8; MOST_COLUMNS],
+    pub told_three: [u8; MOST_COLUMNS],
 }
 
 #[derive(Clone, Copy)]
@@ -75,8 +84,17 @@ pub struct Level {
     pub correction: i64,
 }
 
+/// The answer of repair, and how many of the n + 2t places it changed: columns' values, then check values, a place counted once if any
+/// byte of it changed. 0 for a refusal and for none.
+#[derive(Clone, Copy)]
+#[repr(C)]
+pub struct Repaired {
+    pub answer: u32,
+    pub changed: u32,
+}
+
 mod linked {
-    use super::{Column, Holdings, Level, Outcome};
+    use super::{Column, Holdings, Level, Outcome, Repaired};
 
     unsafe extern "C" {
         pub fn sajowemi_open(
@@ -118,7 +136,7 @@ mod linked {
             checks_length: usize,
             output: *mut u8,
             output_length: usize,
-        ) -> u32;
+        ) -> Repaired;
     }
 }
 
@@ -167,7 +185,7 @@ pub fn check_values(n: u32, t: u32, w: u32, vector: &[u8], output: &mut [u8]) ->
     }
 }
 
-pub fn repair(n: u32, t: u32, w: u32, vector: &[u8], checks: &[u8], output: &mut [u8]) -> u32 {
+pub fn repair(n: u32, t: u32, w: u32, vector: &[u8], checks: &[u8], output: &mut [u8]) -> Repaired {
     unsafe {
         linked::sajowemi_repair(
             n,

@@ -130,7 +130,7 @@ pub struct Level {
     pub correction: i64,
 }
 
-/// The values of all columns, each with a confidence.
+/// The values of all columns, each with a confidence, and how far off each sender was in rounds two and three.
 #[derive(Clone, Copy)]
 pub struct Beliefs {
     n: usize,
@@ -142,7 +142,7 @@ impl Beliefs {
     /// The value of column k and its confidence; None where there is no column k. Of a record that the calls made, the confidence is 0, 1
     /// or 2, and the value zeros where it is 0; of one made by hand, what stands there.
     pub fn of(&self, k: u32) -> Option<(&[u8], u8)> {
-        let at = (k as usize).checked_sub(1).filter(|at| *at < self.n)?;
+        let at = self.at(k)?;
         Some((
             &self.held.values[at * self.w..(at + 1) * self.w],
             self.held.confidences[at],
@@ -152,6 +152,48 @@ impl Beliefs {
     /// The same of columns 1 to n.
     pub fn all(&self) -> impl Iterator<Item = (&[u8], u8)> {
         (1..=self.n as u32).filter_map(|k| self.of(k))
+    }
+
+    /// How far off sender k was in round two, 0 places for the column itself; None where there is no column k. Of a record made by hand,
+    /// what stands there.
+    pub fn told_two(&self, k: u32) -> Option<Told> {
+        self.told(&self.held.told_two, k)
+    }
+
+    /// The same in round three.
+    pub fn told_three(&self, k: u32) -> Option<Told> {
+        self.told(&self.held.told_three, k)
+    }
+
+    fn told(&self, senders: &[u8; archive::MOST_COLUMNS], k: u32) -> Option<Told> {
+        self.at(k).map(|at| Told::from_byte(senders[at]))
+    }
+
+    /// Where column k stands in the lists.
+    fn at(&self, k: u32) -> Option<usize> {
+        (k as usize).checked_sub(1).filter(|at| *at < self.n)
+    }
+}
+
+/// What a round told of a sender.
+#[derive(Clone, Copy, Debug, PartialEq, Eq)]
+pub enum Told {
+    /// So many of the n + 2t places, columns' values and check values together, were changed when its row was repaired.
+    Changed(u8),
+    /// No frame of the sender's counted in that round.
+    Missing,
+    /// Its check values fit no vector near.
+    Nothing,
+}
+
+impl Told {
+    /// The byte as a record has it.
+    pub fn from_byte(byte: u8) -> Told {
+        match byte {
+            archive::TOLD_MISSING => Told::Missing,
+            archive::TOLD_NONE => Told::Nothing,
+            places => Told::Changed(places),
+        }
     }
 }
 
@@ -164,8 +206,9 @@ pub fn check_values(settings: Settings, vector: &[u8], output: &mut [u8]) -> Res
 /// What repair found.
 #[derive(Clone, Copy, Debug, PartialEq, Eq)]
 pub enum Repair {
-    /// The output begins with the one vector near enough in every byte plane.
-    Repaired,
+    /// The output begins with the one vector near enough in every byte plane. So many of the n + 2t places, columns' values and check
+    /// values together, were changed: a place counts once if any byte of it changed.
+    Repaired { changed: u32 },
     /// Some plane has no codeword near; the output keeps its bytes.
     Nothing,
 }
@@ -181,8 +224,9 @@ pub fn repair(
     output: &mut [u8],
 ) -> Result<Repair, Refusal> {
     let Settings { n, t, w } = settings;
-    match archive::repair(n, t, w, vector, checks, output) {
+    let archive::Repaired { answer, changed } = archive::repair(n, t, w, vector, checks, output);
+    match answer {
         NONE => Ok(Repair::Nothing),
-        answer => Refusal::from_answer(answer).map(|()| Repair::Repaired),
+        _ => Refusal::from_answer(answer).map(|()| Repair::Repaired { changed }),
     }
 }

@@ -2,6 +2,7 @@
 
 use crate::archive::{self, Column, Findings, Identity, Outcome, Slot};
 use crate::frames::{command_of, frame, frame_length};
+use crate::linear;
 use crate::record::{EMPTY_SLOT, bytes_at, difference};
 use crate::refusals::{Call, Case, answer, count_after};
 use std::fmt::Debug;
@@ -139,8 +140,29 @@ pub fn sent(column: &Column, room: usize, operand: Option<&[u8]>) {
     same("the buffer", buffer, expected, column);
 }
 
-/// Closes: every slot has what came early then, and nothing is early any more; the round's arrays may have other bytes in front of zeros,
-/// and all else but the round is as before.
+/// What the closing of a round tells of each sender, by repair of the vector that the round began with.
+fn told(column: &Column, vector: &[u8; 256]) -> [u8; 32] {
+    let Identity {
+        n, t, w, number, ..
+    } = column.who;
+    let (vector, checks) = (&vector[..(n * w) as usize], (2 * t * w) as usize);
+    let mut told = [0; 32];
+    for k in (1..=n).filter(|k| *k != number).map(|k| k as usize - 1) {
+        let Slot { taken, bytes } = &column.slots[k];
+        if *taken == 0 {
+            told[k] = 254;
+            continue;
+        }
+        told[k] = match linear::repair(n, t, w, vector, &bytes[4..4 + checks], &mut [0; 256]) {
+            (0, changed) => changed as u8,
+            _ => 255,
+        };
+    }
+    told
+}
+
+/// Closes: every slot has what came early then, and nothing is early any more; what the round tells stands in its array, the round's other
+/// arrays may have other bytes in front of zeros, and all else but the round is as before.
 pub fn closed(column: &Column) -> Column {
     let outcome = archive::close(column);
     let model = model(Call::Close, column, 0, &[], 0);
@@ -159,11 +181,13 @@ pub fn closed(column: &Column) -> Column {
         },
         2 => Findings {
             agreed: now.agreed,
+            told_two: told(column, &column.found.heard),
             ..column.found
         },
         _ => Findings {
             values: now.values,
             confidences: now.confidences,
+            told_three: told(column, &column.found.agreed),
             ..column.found
         },
     };
@@ -186,18 +210,23 @@ pub fn closed(column: &Column) -> Column {
     outcome.column
 }
 
-/// Asks for the result: the record's values and confidences in front of zeros, or zeros with a refusal.
+/// Asks for the result: the record's values, confidences and what its rounds told, in front of zeros, or zeros with a refusal.
 pub fn asked(column: &Column) {
     let held = archive::result(column);
     let model = model(Call::Result, column, 0, &[], 0);
     same("the result", held.answer, model, column);
     let (mut values, mut confidences) = ([0; 256], [0; 32]);
+    let (mut told_two, mut told_three) = ([0; 32], [0; 32]);
     if model == 0 {
         let Identity { n, w, .. } = column.who;
-        let (size, count) = ((n * w) as usize, n as usize);
-        values[..size].copy_from_slice(&column.found.values[..size]);
-        confidences[..count].copy_from_slice(&column.found.confidences[..count]);
+        let (size, count, found) = ((n * w) as usize, n as usize, &column.found);
+        values[..size].copy_from_slice(&found.values[..size]);
+        confidences[..count].copy_from_slice(&found.confidences[..count]);
+        told_two[..count].copy_from_slice(&found.told_two[..count]);
+        told_three[..count].copy_from_slice(&found.told_three[..count]);
     }
     same("values", held.values, values, column);
     same("confidences", held.confidences, confidences, column);
+    same("what round two told", held.told_two, told_two, column);
+    same("what round three told", held.told_three, told_three, column);
 }

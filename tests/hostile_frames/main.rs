@@ -11,6 +11,8 @@ mod damage;
 mod division;
 #[path = "../../models/frames.rs"]
 mod frames;
+#[path = "../../models/linear.rs"]
+mod linear;
 #[path = "../shared/record.rs"]
 mod record;
 #[path = "../../models/refusals.rs"]

@@ -132,8 +132,8 @@ fn handed(column: &Column, command: u8, operands: &[(u32, &[u8])], answer: u32) 
 }
 
 /// All checks of round two reach column 2 of four while it takes values, and none come later; the value of column 4 never comes. Each is
-/// taken once and counts once: not for a value, in Y, and not again in round three, which has the own row alone and where nothing is
-/// believed. Two rounds ahead is too early.
+/// taken once and counts once: not for a value, in Y, and not again in round three, which has the own row alone, where nothing is believed
+/// and all others are told as missing. Two rounds ahead is too early.
 pub fn early_frames() -> u64 {
     let vector = [9, 8, 7, 0];
     let checks = division::check_values(&vector, 1, 1);
@@ -150,11 +150,24 @@ pub fn early_frames() -> u64 {
     column = handed(&column, 0x22, &other, 15);
     column = closed(&column);
     same("Y", &column.found.agreed[..4], &vector, &column);
+    same(
+        "nobody is off",
+        &column.found.told_two[..4],
+        &[0; 4],
+        &column,
+    );
     column = handed(&column, 0x22, &right, 14);
     column = closed(&column);
-    let beliefs = archive::result(&column).confidences;
-    same("confidences", beliefs, [0; 32], &column);
-    6 * 3 + 2 + 3
+    let held = archive::result(&column);
+    same("confidences", held.confidences, [0; 32], &column);
+    same("round two", &held.told_two[..4], &[0; 4], &column);
+    same(
+        "round three",
+        &held.told_three[..4],
+        &[254, 0, 254, 254],
+        &column,
+    );
+    6 * 3 + 2 + 6
 }
 
 /// The count of refused frames at its bottom and its top, under each of the refusals 9 to 15.

@@ -1,5 +1,6 @@
 //! A group whose columns go at their own pace, whether the conditions of the promises are met, and the promises.
 
+use crate::archive;
 use crate::chance::Chance;
 use crate::exchange::{Value, agree};
 use crate::pair::{Event, Pair, pair};
@@ -131,6 +132,29 @@ impl Group {
                     .iter()
                     .all(|handed| self.is_fair(&handed.event))
         })
+    }
+
+    /// What rounds two and three tell of a good sender is at most the count of bad columns, and no mark, which is above every count.
+    /// Answers how many numbers were looked at, and how many of these are that count, where it is not 0.
+    pub fn told_of_good(&self) -> (u64, u64) {
+        let bad = self.bad.len() as u8;
+        let (mut numbers, mut highest) = (0, 0);
+        for reader in &self.good {
+            let held = archive::result(&reader.column);
+            for sender in self.good.iter().map(|sender| sender.model.number) {
+                let k = sender as usize - 1;
+                for told in [held.told_two[k], held.told_three[k]] {
+                    let Group { n, t, w, .. } = self;
+                    assert!(
+                        told <= bad,
+                        "{told} told of a good sender in a group of {n}, {t}, {w} with {bad} bad columns"
+                    );
+                    numbers += 1;
+                    highest += u64::from(told == bad && bad > 0);
+                }
+            }
+        }
+        (numbers, highest)
     }
 
     /// The three promises; answers how many pairs of beliefs were compared, and how many of these differ in confidence.

@@ -1,6 +1,7 @@
 //! Whole groups in random schedules: columns at their own pace, frames lost, repeated, early, late, foreign and damaged, and liars that
 //! split the group. Each column is driven beside a model of it, and both are compared at every step. Where at most t columns are bad and
-//! every good frame is handed in its round or in the one before, the three promises about what good columns believe are asserted too.
+//! every good frame is handed in its round or in the one before, the three promises about what good columns believe are asserted too, and
+//! that what they tell of good senders is at most the count of bad columns.
 
 #[path = "../../rust/src/archive.rs"]
 mod archive;
@@ -21,7 +22,34 @@ mod pair;
 mod refusals;
 
 use chance::Chance;
+use exchange::{Model, Told};
 use group::group;
+
+/// What finished columns tell, by which it is seen that the schedules reach all of it.
+#[derive(Default)]
+struct Tellings {
+    missing: u64,
+    none: u64,
+    changed: u64,
+    above_t: u64,
+    otherwise: u64,
+}
+
+impl Tellings {
+    fn add(&mut self, column: &Model) {
+        for told in column.told_two.iter().chain(&column.told_three) {
+            match *told {
+                Told::Missing => self.missing += 1,
+                Told::None => self.none += 1,
+                Told::Changed(places) => {
+                    self.changed += u64::from(places > 0);
+                    self.above_t += u64::from(places > column.t);
+                }
+            }
+        }
+        self.otherwise += u64::from(column.told_two != column.told_three);
+    }
+}
 
 fn main() {
     const SETTINGS: [(u32, u32, u32, u32); 9] = [
@@ -38,6 +66,7 @@ fn main() {
     let mut chance = Chance::new(2);
     let (mut groups, mut handed, mut early) = (0, 0, 0);
     let (mut promised, mut only_early, mut beliefs, mut apart) = (0, 0, 0, 0);
+    let (mut tellings, mut numbers, mut highest) = (Tellings::default(), 0, 0);
     for (n, t, w, count) in SETTINGS {
         for _ in 0..count {
             let mut group = group(&mut chance, n, t, w);
@@ -48,6 +77,7 @@ fn main() {
             for column in &group.good {
                 handed += column.handed.len();
                 early += column.taken_early();
+                tellings.add(&column.model);
             }
             let in_time = group.is_in_time(1);
             assert!(in_time || !group.reliable, "a reliable group");
@@ -55,6 +85,8 @@ fn main() {
                 let (compared, differing) = group.promises();
                 (promised, beliefs, apart) = (promised + 1, beliefs + compared, apart + differing);
                 only_early += u32::from(!group.is_in_time(0));
+                let (told, equal) = group.told_of_good();
+                (numbers, highest) = (numbers + told, highest + equal);
             }
         }
     }
@@ -63,6 +95,18 @@ fn main() {
     );
     println!(
         "schedules: the promises hold in {promised} of the groups, in {only_early} of them only through early frames, for {beliefs} pairs \
-         of beliefs, {apart} of these one confidence apart"
+         of beliefs, {apart} of these one confidence apart, and for {numbers} numbers told of good senders, {highest} of these the count \
+         of bad columns"
+    );
+    let Tellings {
+        missing,
+        none,
+        changed,
+        above_t,
+        otherwise,
+    } = tellings;
+    println!(
+        "schedules: told are {missing} missing frames, {none} times none, {changed} numbers above 0, {above_t} of these above t; of \
+         {otherwise} columns round three tells something else than round two"
     );
 }

@@ -1,7 +1,7 @@
 //! A good column: the library's record beside the model's, compared at every step.
 
 use crate::archive::{self, Column};
-use crate::exchange::{Model, Value};
+use crate::exchange::{Model, Told, Value};
 use crate::frames::command_of;
 
 /// A slot and the frame that comes in it.
@@ -123,6 +123,9 @@ impl Pair {
         if model.round > 2 {
             assert_eq!(column.found.agreed[..size], model.agreed.concat(), "Y");
         }
+        let (two, three) = (record_of(&model.told_two), record_of(&model.told_three));
+        assert_eq!(column.found.told_two, two, "what round two told");
+        assert_eq!(column.found.told_three, three, "what round three told");
         if model.round > 3 {
             let held = archive::result(column);
             let (values, confidences): (Vec<Value>, Vec<u8>) = model.held.iter().cloned().unzip();
@@ -133,6 +136,17 @@ impl Pair {
                 confidences,
                 "confidences"
             );
+            assert_eq!(held.told_two, two, "round two in the result");
+            assert_eq!(held.told_three, three, "round three in the result");
         }
     }
+}
+
+/// A list of what a round told as a record has it: zeros behind the columns, and all of it zeros until the round is closed.
+fn record_of(told: &[Told]) -> [u8; 32] {
+    let mut bytes = [0; 32];
+    for (byte, told) in bytes.iter_mut().zip(told) {
+        *byte = told.byte();
+    }
+    bytes
 }

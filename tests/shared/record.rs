@@ -28,6 +28,8 @@ pub const EMPTY: Column = Column {
         agreed: [0; 256],
         values: [0; 256],
         confidences: [0; 32],
+        told_two: [0; 32],
+        told_three: [0; 32],
     },
     round: 0,
     refused: 0,

@@ -42,6 +42,19 @@ unfolding in-front
 written-front many new old now l h w =
     written-between 0 many new old now l (omega arith) w ∙ ap (λ (k : ℕ). new ++ drop k old) (let e : 0 + many ≡ length new = omega arith in e)
 
+-- an array changed in front alone
+pub front-kept :
+    (many : ℕ) (old now : List ℕ) → length now ≡ length old → many ≤ length old → ((i : ℕ) → many ≤ i → getD now i 0 ≡ getD old i 0) →
+    now ≡ in-front (take many now) old
+front-kept many old now e h kept =
+    written-front many (take many now) old now (length-take-le many now (omega arith)) h
+    (record {
+      long = e;
+      new = λ p g. ap (λ (i : ℕ). getD now i 0) (let f : 0 + p ≡ p = omega arith in f) ∙ sym (getD-take many now p 0 g);
+      before = λ i g. absurd (omega arith);
+      after = λ i g. kept i (omega arith);
+    })
+
 -- what is copied from another array: all of it, or a part
 pub copied :
     (many : ℕ) (new old now : List ℕ) → length new ≡ many → many ≤ length old → Written 0 many (λ p. getD new (0 + p) 0) old now → now ≡ in-front new old

@@ -19,9 +19,6 @@ module _ (a k : ℕ) (xs ys : List ℕ) (fits : a + k ≤ length xs) (same : len
   front : length (take a xs) ≡ a
   front = length-take-le a xs (omega arith)
 
-  pub part-before : (i : ℕ) → i < a → getD (putMid a k xs ys) i 0 ≡ getD xs i 0
-  part-before i h = List·getD-append (take a xs) (ys ++ postOf a k xs) 0 i (omega (arith, front)) ∙ getD-take a xs i 0 h
-
   past : (i : ℕ) → getD (putMid a k xs ys) (a + i) 0 ≡ getD (ys ++ postOf a k xs) i 0
   past i = ap (λ (n : ℕ). getD (putMid a k xs ys) (n + i) 0) (sym front) ∙ getD-append-add (take a xs) (ys ++ postOf a k xs) i 0
 

@@ -8,7 +8,7 @@ use Rattle.code.specs.Settings.{Settings, settings-refusal, check-count}
 use Rattle.code.specs.Polynomial.{generator, Remainder}
 use Rattle.code.specs.Plane.{is-codeword, byte-list, data-polynomial, check-polynomial}
 use Rattle.code.specs.Vector.{is-vector, has-checks, differ-values}
-use Rattle.code.specs.Repair.{Near, Repaired}
+use Rattle.code.specs.Repair.{Near, Repaired, changed-places}
 
 -- two ways to say that bytes are the checks of a plane: zero at the roots, and the remainder by the generator
 unfoldable pub Checks-remain : Type 0
@@ -29,8 +29,14 @@ One-near =
     (s : Settings) (bs cs us ds xs ys : List ℕ) → settings-refusal s ≡ 0 → length bs ≡ s .n → length cs ≡ check-count s →
     Near s bs cs us ds → Near s bs cs xs ys → (us ≡ xs) × (ds ≡ ys)
 
--- the check values of a vector repair any other vector that differs from it in at most t values
+-- a vector and check values have at most one repair, in its values and in its check values
+unfoldable pub One-repair : Type 0
+One-repair =
+    (s : Settings) (vs cs us ds xs ys : List (List ℕ)) → settings-refusal s ≡ 0 → length vs ≡ s .n → length cs ≡ check-count s →
+    Repaired s vs cs us ds → Repaired s vs cs xs ys → (us ≡ xs) × (ds ≡ ys)
+
+-- the check values of a vector repair any other vector that differs from it in at most t values, and change these places alone
 unfoldable pub Repairs : Type 0
 Repairs =
     (s : Settings) (vs us cs : List (List ℕ)) → settings-refusal s ≡ 0 → is-vector s vs ≡ true → is-vector s us ≡ true → has-checks s us cs ≡ true →
-    differ-values vs us ≤ s .t → Repaired s vs cs us
+    differ-values vs us ≤ s .t → Repaired s vs cs us cs × (changed-places vs cs us cs ≡ differ-values vs us)

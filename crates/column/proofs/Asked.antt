@@ -1,6 +1,6 @@
--- What `result` answers: the values and confidences of the record, cut to the columns that there are and zeros behind them. Read again
--- they are what the column holds. Byte for byte, by lists that agree at every place. Assumes nothing.
-use mathlib.Core.Path.{_≡_, sym, _∙_, ap, ap₂}
+-- What `result` answers: the values and confidences of the record, and what rounds two and three told, cut to the columns that there are
+-- and zeros behind them. Read again they are what the column holds. Byte for byte, by lists that agree at every place. Assumes nothing.
+use mathlib.Core.Path.{_≡_, sym, _∙_, ap, ap₂, subst}
 use mathlib.Core.List.{List, []}
 use Prim.Native.Nat.{ℕ, _*_, _≤_, _<_}
 use native.Mathlib.Omega.{arith}
@@ -8,17 +8,27 @@ use lib.ListN.{length, getD, take, drop, replicate}
 use lib.Seq.{getD-take, length-take-le, take-at, ext-getD}
 use Rattle.arrays.specs.Array.{in-front, padded}
 use Rattle.arrays.proofs.Padded.{padded-at}
-use Rattle.code.specs.Settings.{Settings, value-size}
+use Rattle.code.specs.Settings.{Settings, settings, value-size}
 use Rattle.code.specs.Size.{most-columns, vector-room}
 use Rattle.code.specs.Vector.{cut, glued}
 use Rattle.code.specs.Entry.{values-in}
 use Rattle.code.proofs.Vectors.Cut.{cut-length, glued-cut}
 use Rattle.grading.specs.Value.{Vector, entries}
-use Rattle.grading.specs.Held.{held-as, held-in, held-values}
+use Rattle.grading.specs.Held.{Held, held-as, held-in, held-values}
 use Rattle.counting.specs.Stored.{Stores-held}
 use Rattle.grading.proofs.Value.{entries-length, entries-of, entries-alike}
 use Rattle.counting.proofs.Placed.{held-values-entries, held-confidences-entries}
+use Rattle.record.specs.Record.{who-as}
+use Rattle.record.specs.Refusal.{ask-refusal}
+use Rattle.record.specs.View.{settings-of, who-in, view}
+use Rattle.record.specs.Stored.{no-holdings}
+use Rattle.record.specs.declared.Column.{Column}
+use Rattle.record.specs.declared.Holdings.{Holdings}
 use Rattle.record.proofs.Front.{cut-front}
+use Rattle.record.proofs.Refusal.{ask-round}
+use Rattle.record.proofs.View.{found-held, found-two, found-three}
+use Rattle.column.specs.Entry.{Result-says}
+use Rattle.column.specs.Steps.Holdings.{Fronts}
 
 -- the first entries of a list
 entries-take : {A : Type 0} (n : ℕ) (xs : List A) (d : A) → n ≤ length xs → entries n 0 (λ j. getD xs j d) ≡ take n xs
@@ -55,3 +65,53 @@ module _ (s : Settings) (vs cs : List ℕ) (room : s .n * value-size s ≤ lengt
             ap₂ held-as (ap (λ (us : Vector). getD us j []) (cut-padded (s .n) (value-size s) vs room))
             (padded-at most-columns (take (s .n) cs) j ∙ getD-take (s .n) cs j 0 k)));
       }
+
+-- answers of the same bytes
+pub same-holdings :
+    (a b : Holdings) → a .answer ≡ b .answer → a .values ≡ b .values → a .confidences ≡ b .confidences → a .«told_two» ≡ b .«told_two» →
+    a .«told_three» ≡ b .«told_three» → a ≡ b
+same-holdings a b e f g h k =
+    let whole : (x : Holdings) → Holdings =
+    λ x. record { answer = x .answer; values = x .values; confidences = x .confidences; «told_two» = x .«told_two»; «told_three» = x .«told_three» } in
+    let same : whole a ≡ whole b = cc in
+    same
+
+stores-alike :
+    {s : Settings} {hs gs : List Held} {vs us cs ks : List ℕ} → hs ≡ gs → vs ≡ us → cs ≡ ks → Stores-held s gs us ks → Stores-held s hs vs cs
+stores-alike {s} {hs} {gs} {vs} {us} {cs} {ks} e f g x =
+    subst (λ (y : List Held). Stores-held s y vs cs) (sym e)
+    (subst (λ (y : List ℕ). Stores-held s gs y cs) (sym f) (subst (λ (y : List ℕ). Stores-held s gs us y) (sym g) x))
+
+-- refused, nothing is handed out
+pub refused-says : (c : Column) (a : ℕ) (h : Holdings) → a ≡ ask-refusal (view c) → (a ≡ 0 → ⊥) → Fronts a (c .found) 0 0 h → Result-says c h
+unfolding Fronts padded in-front no-holdings
+refused-says c a h e z fronts =
+    let same : h .answer ≡ a = ap (λ (x : Holdings). x .answer) fronts in
+    record {
+      answered = same ∙ e;
+      done = λ f. absurd (z (sym same ∙ f));
+      two = λ f. absurd (z (sym same ∙ f));
+      three = λ f. absurd (z (sym same ∙ f));
+      refused = λ f. fronts ∙ ap no-holdings (sym same);
+    }
+
+-- in round four, what the column has found
+pub done-says :
+    (c : Column) (size : ℕ) (h : Holdings) → ask-refusal (view c) ≡ 0 → size ≡ c .who .n * c .who .w → size ≤ length (c .found .values) →
+    c .who .n ≤ length (c .found .confidences) → Fronts 0 (c .found) size (c .who .n) h → Result-says c h
+unfolding Fronts view who-in who-as settings-of settings value-size
+done-says c size h e whole room many fronts =
+    let s = settings-of (c .who) in
+    let f = c .found in
+    let four = ask-round (view c) e in
+    let same : h .answer ≡ 0 = ap (λ (x : Holdings). x .answer) fronts in
+    record {
+      answered = same ∙ sym e;
+      done = λ z.
+          stores-alike (found-held s (c .round) f (omega arith))
+          (ap (λ (x : Holdings). x .values) fronts ∙ ap (λ (k : ℕ). padded vector-room (take k (f .values))) whole) (ap (λ (x : Holdings). x .confidences) fronts)
+          (result-stores s (f .values) (f .confidences) (omega arith) many);
+      two = λ z. ap (λ (x : Holdings). x .«told_two») fronts ∙ ap (padded most-columns) (sym (found-two s (c .round) f (omega arith)));
+      three = λ z. ap (λ (x : Holdings). x .«told_three») fronts ∙ ap (padded most-columns) (sym (found-three s (c .round) f (omega arith)));
+      refused = λ z. absurd (z same);
+    }

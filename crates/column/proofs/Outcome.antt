@@ -24,14 +24,16 @@ use Rattle.record.specs.Record.{Who, Found, Rec, who-as, taken-at, counted, wit
 use Rattle.record.specs.Refusal.{record-refusal, send-refusal, close-refusal}
 use Rattle.column.specs.Call.{closing, Leads, Operand, Frame-of}
 use Rattle.record.specs.View.{settings-of, who-in, view}
-use Rattle.record.specs.Stored.{with-slot, found-now, one-on, after-refusal}
-use Rattle.column.specs.Entry.{Send-says, Close-says}
+use Rattle.record.specs.Stored.{no-holdings, with-slot, found-now, one-on, after-refusal}
+use Rattle.column.specs.Entry.{Send-says, Close-says, Result-says}
 use Rattle.column.specs.Promise.{One-outcome, sent-frame, Sent-taken, Sent-counts}
 use Rattle.record.specs.declared.Column.{Column}
+use Rattle.record.specs.declared.Holdings.{Holdings}
 use Rattle.record.proofs.Refusal.{first-of-zero, record-settings, record-number, close-record, close-settings, close-fine}
 use Rattle.record.proofs.There.{early-here}
 use Rattle.column.proofs.Frame.{frame-round, frame-fits-its-round, frame-fresh, operand-length}
 use Rattle.record.proofs.View.{frames-length, view-slot, found-heard, found-agreed}
+use Rattle.column.proofs.Asked.{same-holdings}
 use Rattle.column.proofs.Step.{Closes, closing-leads, closes-now}
 use Rattle.rounds.proofs.Rows.{closed-unique}
 
@@ -110,16 +112,19 @@ one-outcome =
       sizing = λ c a b x y. either (close-refusal (view c)) (λ z. x .done z ∙ sym (y .done z)) (λ z. x .refused z ∙ sym (y .refused z));
       sending = sends;
       closing = closes;
-      asking =
-          λ c a b vs cs us ks x y.
-          (let same = x .answered ∙ sym (y .answered) in (
-            same,
-            either a (λ z. x .done z .value-bytes ∙ sym (y .done (sym same ∙ z) .value-bytes)) (λ z. x .refused z .0 ∙ sym (y .refused (λ u. z (same ∙ u)) .0)),
-            either a (λ z. x .done z .confidence-bytes ∙ sym (y .done (sym same ∙ z) .confidence-bytes))
-                (λ z. x .refused z .1 ∙ sym (y .refused (λ u. z (same ∙ u)) .1)),
-          ));
+      asking = asks;
     }
   where
+    asks : (c : Column) (a b : Holdings) → Result-says c a → Result-says c b → a ≡ b
+    asks c a b x y =
+        let same = x .answered ∙ sym (y .answered) in
+        either (a .answer)
+        (λ z.
+        (let other = sym same ∙ z in
+        same-holdings a b same (x .done z .value-bytes ∙ sym (y .done other .value-bytes)) (x .done z .confidence-bytes ∙ sym (y .done other .confidence-bytes))
+        (x .two z ∙ sym (y .two other)) (x .three z ∙ sym (y .three other))))
+        (λ z. x .refused z ∙ ap no-holdings same ∙ sym (y .refused (λ u. z (same ∙ u))))
+
     sends : (c : Column) (buffer : List ℕ) (a b : ℕ) (xs ys : List ℕ) → Send-says c buffer a xs → Send-says c buffer b ys → (a ≡ b) × (xs ≡ ys)
     sends c buffer a b xs ys x y =
         let same = x .answered ∙ sym (y .answered) in (

@@ -41,21 +41,39 @@ pub record Closes (r q : Rec) : Type 0 where
   pub frames : q .frames ≡ r .early
   pub early : q .early ≡ no-frames (r .who .settings)
   pub one : r .round ≡ 1 → q .found .heard ≡ heard-vector r
-  pub two : r .round ≡ 2 → (rows : Rows) × Table r (r .found .heard) rows × (q .found .agreed ≡ agreed-vector (r .who .settings) rows)
-  pub three : r .round ≡ 3 → (rows : Rows) × Table r (r .found .agreed) rows × (q .found .held ≡ held-list (r .who .settings) rows)
+  pub two :
+      r .round ≡ 2 →
+      (rows : Rows) × Table r (r .found .heard) rows (q .found .told-two) × (q .found .agreed ≡ agreed-vector (r .who .settings) rows)
+  pub three :
+      r .round ≡ 3 →
+      (rows : Rows) × Table r (r .found .agreed) rows (q .found .told-three) × (q .found .held ≡ held-list (r .who .settings) rows)
   pub heard-kept : 2 ≤ r .round → q .found .heard ≡ r .found .heard
   pub agreed-kept : 3 ≤ r .round → q .found .agreed ≡ r .found .agreed
+  pub two-kept : 3 ≤ r .round → q .found .told-two ≡ r .found .told-two
 
 -- one round on, whatever is found: who the column is, and what came in
 closes-by :
     (r q : Rec) (f : Found) → 1 ≤ r .round → r .round ≤ 3 → q ≡ next-round r f → (r .round ≡ 1 → f .heard ≡ heard-vector r) →
-    (r .round ≡ 2 → (rows : Rows) × Table r (r .found .heard) rows × (f .agreed ≡ agreed-vector (r .who .settings) rows)) →
-    (r .round ≡ 3 → (rows : Rows) × Table r (r .found .agreed) rows × (f .held ≡ held-list (r .who .settings) rows)) →
-    (2 ≤ r .round → f .heard ≡ r .found .heard) → (3 ≤ r .round → f .agreed ≡ r .found .agreed) → Closes r q
+    (r .round ≡ 2 → (rows : Rows) × Table r (r .found .heard) rows (f .told-two) × (f .agreed ≡ agreed-vector (r .who .settings) rows)) →
+    (r .round ≡ 3 → (rows : Rows) × Table r (r .found .agreed) rows (f .told-three) × (f .held ≡ held-list (r .who .settings) rows)) →
+    (2 ≤ r .round → f .heard ≡ r .found .heard) → (3 ≤ r .round → (f .agreed ≡ r .found .agreed) × (f .told-two ≡ r .found .told-two)) → Closes r q
 unfolding next-round
 closes-by r q f low high c one two three heard agreed =
     rw c
-    (record { who = refl; low = low; high = high; round = refl; frames = refl; early = refl; one = one; two = two; three = three; heard-kept = heard; agreed-kept = agreed })
+    (record {
+      who = refl;
+      low = low;
+      high = high;
+      round = refl;
+      frames = refl;
+      early = refl;
+      one = one;
+      two = two;
+      three = three;
+      heard-kept = heard;
+      agreed-kept = λ h. agreed h .0;
+      two-kept = λ h. agreed h .1;
+    })
 
 closes-of : (m : ℕ) (r q : Rec) → r .round ≡ m → 1 ≤ m → m ≤ 3 → Closed m r q → Closes r q
 unfolding Closed found-as
@@ -63,9 +81,9 @@ closes-of zero r q e h l c = absurd (omega arith)
 closes-of (suc zero) r q e h l c =
     closes-by r q _ (omega arith) (omega arith) c (λ f. refl) (λ f. absurd (omega arith)) (λ f. absurd (omega arith)) (λ f. absurd (omega arith)) (λ f. absurd (omega arith))
 closes-of (suc (suc zero)) r q e h l c =
-    closes-by r q _ (omega arith) (omega arith) (c .2) (λ f. absurd (omega arith)) (λ f. (c .0, c .1, refl)) (λ f. absurd (omega arith)) (λ f. refl) (λ f. absurd (omega arith))
+    closes-by r q _ (omega arith) (omega arith) (c .3) (λ f. absurd (omega arith)) (λ f. (c .0, c .2, refl)) (λ f. absurd (omega arith)) (λ f. refl) (λ f. absurd (omega arith))
 closes-of (suc (suc (suc zero))) r q e h l c =
-    closes-by r q _ (omega arith) (omega arith) (c .2) (λ f. absurd (omega arith)) (λ f. absurd (omega arith)) (λ f. (c .0, c .1, refl)) (λ f. refl) (λ f. refl)
+    closes-by r q _ (omega arith) (omega arith) (c .3) (λ f. absurd (omega arith)) (λ f. absurd (omega arith)) (λ f. (c .0, c .2, refl)) (λ f. refl) (λ f. (refl, refl))
 closes-of (suc (suc (suc (suc m)))) r q e h l c = absurd (omega arith)
 
 closed-closes : (r q : Rec) → close-refusal r ≡ 0 → Closed (r .round) r q → Closes r q

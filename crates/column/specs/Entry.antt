@@ -3,17 +3,18 @@
 use mathlib.Core.Path.{_≡_}
 use mathlib.Core.List.{List}
 use Prim.Native.Nat.{ℕ}
-use lib.ListN.{length, replicate}
-use Rattle.arrays.specs.Array.{in-front}
+use lib.ListN.{length}
+use Rattle.arrays.specs.Array.{in-front, padded}
 use Rattle.code.specs.Settings.{settings}
-use Rattle.code.specs.Size.{most-columns, vector-room}
+use Rattle.code.specs.Size.{most-columns}
 use Rattle.counting.specs.Stored.{Stores-held}
 use Rattle.record.specs.Frame.{frame-size}
 use Rattle.record.specs.Refusal.{open-refusal, take-refusal, send-refusal, close-refusal, ask-refusal}
 use Rattle.column.specs.Call.{closing, Frame-of, Leads}
 use Rattle.record.specs.View.{settings-of, view}
-use Rattle.record.specs.Stored.{identity, no-column, opened-column, with-slot, after-refusal, found-now, one-on}
+use Rattle.record.specs.Stored.{no-holdings, identity, no-column, opened-column, with-slot, after-refusal, found-now, one-on}
 use Rattle.record.specs.declared.Column.{Column}
+use Rattle.record.specs.declared.Holdings.{Holdings}
 
 -- `open`: the refusal that applies and no column, or 0 and the record as opening makes it
 pub record Open-says (n t w number run : ℕ) (own : List ℕ) (answer : ℕ) (column : Column) : Type 0 where
@@ -46,8 +47,11 @@ pub record Close-says (c : Column) (answer : ℕ) (c-now : Column) : Type 0 wher
   pub done : answer ≡ 0 → c-now ≡ one-on c (found-now (c .round) (c .found) (view c-now .found))
   pub refused : (answer ≡ 0 → ⊥) → c-now ≡ c
 
--- `result`: the refusal that applies and zeros, or 0 and the values and confidences that the column holds, zeros behind them
-pub record Result-says (c : Column) (answer : ℕ) (values confidences : List ℕ) : Type 0 where
-  pub answered : answer ≡ ask-refusal (view c)
-  pub done : answer ≡ 0 → Stores-held (settings-of (c .who)) (view c .found .held) values confidences
-  pub refused : (answer ≡ 0 → ⊥) → (values ≡ replicate vector-room 0) × (confidences ≡ replicate most-columns 0)
+-- `result`: the refusal that applies and zeros, or 0, the values and confidences that the column holds, and what rounds two and three
+-- told, zeros behind them
+pub record Result-says (c : Column) (h : Holdings) : Type 0 where
+  pub answered : h .answer ≡ ask-refusal (view c)
+  pub done : h .answer ≡ 0 → Stores-held (settings-of (c .who)) (view c .found .held) (h .values) (h .confidences)
+  pub two : h .answer ≡ 0 → h .«told_two» ≡ padded most-columns (view c .found .told-two)
+  pub three : h .answer ≡ 0 → h .«told_three» ≡ padded most-columns (view c .found .told-three)
+  pub refused : (h .answer ≡ 0 → ⊥) → h ≡ no-holdings (h .answer)

@@ -13,6 +13,7 @@ use Rattle.record.specs.View.{settings-of, who-in, view}
 use Rattle.record.specs.Stored.{with-slot}
 use Rattle.column.specs.Entry.{Open-says, Take-says, Frame-size-says, Send-says, Close-says, Result-says}
 use Rattle.record.specs.declared.Column.{Column}
+use Rattle.record.specs.declared.Holdings.{Holdings}
 
 -- each call has one outcome: two that keep its promise are the same, in the answer, in the record and in every lent byte
 pub record One-outcome : Type 0 where
@@ -25,8 +26,7 @@ pub record One-outcome : Type 0 where
   pub sending :
       (c : Column) (buffer : List ℕ) (a b : ℕ) (xs ys : List ℕ) → Send-says c buffer a xs → Send-says c buffer b ys → (a ≡ b) × (xs ≡ ys)
   pub closing : (c : Column) (a b : ℕ) (d e : Column) → Close-says c a d → Close-says c b e → (a ≡ b) × (d ≡ e)
-  pub asking :
-      (c : Column) (a b : ℕ) (vs cs us ks : List ℕ) → Result-says c a vs cs → Result-says c b us ks → (a ≡ b) × (vs ≡ us) × (cs ≡ ks)
+  pub asking : (c : Column) (a b : Holdings) → Result-says c a → Result-says c b → a ≡ b
 
 -- a frame written and read again: another column in that round, or in the one before, takes it, and its operand is kept
 unfoldable pub Frame-taken : Type 0

@@ -1,10 +1,9 @@
 // One column's part in the exchange: its record and the calls on it.
+mod holdings;
 mod sending;
 
 ghost use Rattle.column.specs.Entry.{Open-says, Take-says, Frame-size-says, Send-says, Close-says, Result-says};
-use code::sizes::MOST_COLUMNS;
 use code::sizes::VALUE_ROOM;
-use code::sizes::VECTOR_ROOM;
 use record::Column;
 use record::Holdings;
 use record::Identity;
@@ -110,31 +109,17 @@ pub fn close(mut column: Column) -> Outcome
     Outcome { answer, column }
 }
 
-// The values and confidences that the column ended with, zeros behind them: 0, or the refusal 1 to 4, 6 or 17.
+// The values and confidences that the column ended with, and what rounds two and three told of each sender, zeros behind them: 0, or
+// the refusal 1 to 4, 6 or 17.
 pub fn result(column: Column) -> Holdings
-    ensures { λ r. ⌜ Result-says column (r .answer) (r .values) (r .confidences) ⌝ }
+    ensures { λ r. ⌜ Result-says column r ⌝ }
 {
     let who = column.who;
-    let answer = refusals::ask_refusal(who, column.round);
-    let mut values = [0u8; VECTOR_ROOM];
-    let mut confidences = [0u8; MOST_COLUMNS];
-    if answer != 0 {
-        return Holdings {
-            answer,
-            values,
-            confidences,
-        };
-    }
     let found = column.found;
-    let held = found.values;
-    let held_confidences = found.confidences;
-    let many = who.n as usize;
-    let size = record::vector_size(who.n, who.w);
-    arrays::copy(&mut values, 0, &held, 0, size);
-    arrays::copy(&mut confidences, 0, &held_confidences, 0, many);
-    Holdings {
-        answer,
-        values,
-        confidences,
+    let answer = refusals::ask_refusal(who, column.round);
+    if answer != 0 {
+        return holdings::fronts(answer, found, 0, 0);
     }
+    let size = record::vector_size(who.n, who.w);
+    holdings::fronts(0, found, size, who.n as usize)
 }

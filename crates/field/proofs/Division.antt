@@ -43,8 +43,3 @@ divide-times a b h l z =
 -- multiplying, then dividing again
 pub times-divide : (a b : ℕ) → a < 256 → b < 256 → (b ≡ 0 → ⊥) → times (times a b) (inverse b) ≡ a
 times-divide a b h l z = times-assoc a b (inverse b) h l ∙ ap (times a) (times-inverse b l z) ∙ times-one a h
-
-pub inverse-nonzero : (a : ℕ) → a < 256 → (a ≡ 0 → ⊥) → inverse a ≡ 0 → ⊥
-inverse-nonzero a h z e =
-    let one-is-zero : _≡_ {A = ℕ} 1 0 = sym (times-inverse a h z) ∙ times-comm a (inverse a) h (inverse-lt a) ∙ ap (λ (x : ℕ). times x a) e ∙ zero-times a in
-    omega arith

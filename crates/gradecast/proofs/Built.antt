@@ -1,29 +1,33 @@
 -- Every built run follows the definitions' run of the same list, since each promise says what the call leaves of the record that is read;
 -- so what is proved of the definitions' runs holds of the calls as built. Assumes nothing.
 use mathlib.Core.Path.{_≡_, refl, sym, _∙_, ap, subst}
-use mathlib.Core.Bool.{not}
+use mathlib.Core.Bool.{Bool, true, false, not}
 use mathlib.Core.List.{List, map}
-use Prim.Native.Nat.{ℕ, _-_}
+use Prim.Native.Nat.{ℕ, _-_, _<_}
 use native.Mathlib.Omega.{arith}
-use lib.ListN.{getD, length-map}
-use borrow.Author.Tests.{eq-eqb}
+use lib.Dec.{ltb}
+use lib.ListN.{length, getD, length-map, List·getD-append, List·getD-eq-default}
+use borrow.Author.Tests.{eq-eqb, ltb-true, ltb-false}
+use Rattle.arrays.specs.Array.{in-front, padded}
 use Rattle.code.specs.Settings.{Settings, settings}
+use Rattle.code.specs.Size.{most-columns}
 use Rattle.grading.specs.Held.{Held, held-in}
-use Rattle.record.specs.Record.{Rec, who-as}
+use Rattle.record.specs.Record.{Rec, told-missing, who-as}
 use Rattle.record.specs.Refusal.{unfinished-refusal, ask-refusal}
 use Rattle.column.specs.Call.{Call, Leads, Run, no-call, one-call}
-use Rattle.gradecast.specs.Promise.{Good, Ran, Fair, Conditions, none-held, holds, Agree, Gradecast}
+use Rattle.gradecast.specs.Promise.{Good, Ran, Fair, Conditions, none-held, holds, Few-told, Good-told, Agree, Gradecast}
 use Rattle.record.specs.View.{settings-of, who-in, view}
 use Rattle.column.specs.Entry.{Result-says}
-use Rattle.gradecast.specs.Built.{Built-step, takes, sends, closes, asks, Built-run, no-step, one-step, Built, Built-ran, Built-conditions, defined, answered, Built-gradecast}
+use Rattle.gradecast.specs.Built.{Built-step, takes, sends, closes, asks, Built-run, no-step, one-step, Built, Built-ran, Built-conditions, defined, answered, Built-gradecast, Built-told}
 use Rattle.record.specs.declared.Column.{Column}
+use Rattle.record.specs.declared.Holdings.{Holdings}
 use Rattle.record.proofs.Refusal.{line-passed, first-of-next, first-of-last, Opens, opens-of}
 use Rattle.record.proofs.View.{view-opened}
 use Rattle.column.proofs.Taken.{take-reads}
 use Rattle.gradecast.proofs.Proper.{Proper, proper-open, proper-fine}
 use Rattle.gradecast.proofs.Walk.{run-passes, proper-passes}
 use Rattle.gradecast.proofs.Goods.{among-map, each-map}
-use Rattle.gradecast.proofs.Gradecast.{gradecast}
+use Rattle.gradecast.proofs.Gradecast.{good-told, gradecast}
 
 -- a step, and a list of them
 pub step-leads : {c d : Column} {x : Call} → Built-step c x d → Leads x (view c) (view d)
@@ -31,7 +35,7 @@ unfolding Leads
 step-leads (takes c d slot answer frame says) = take-reads c d slot answer frame says
 step-leads (sends c answer buffer buffer-now says) = refl
 step-leads (closes c d answer says) = says .reads
-step-leads (asks c answer values confidences says) = refl
+step-leads (asks c h says) = refl
 
 pub run-follows : {c d : Column} {xs : List Call} → Built-run c xs d → Run (view c) xs (view d)
 run-follows (no-step c) = no-call (view c)
@@ -60,8 +64,8 @@ conditions-follow s run bs c =
     }
 
 -- the result of a column that has finished
-module _ (s : Settings) (run : ℕ) (b : Built) (r : Built-ran s run b) (finished : b .last .round ≡ 4) (answer : ℕ) (vs cs : List ℕ)
-    (result : Result-says (b .last) answer vs cs) where
+module _ (s : Settings) (run : ℕ) (b : Built) (r : Built-ran s run b) (finished : b .last .round ≡ 4) (h : Holdings)
+    (result : Result-says (b .last) h) where
   opened-as : Opens s (b .number) (b .own)
   unfolding defined
   opened-as = opens-of s (b .number) (b .own) (ran-follows s run b r .opens)
@@ -76,7 +80,7 @@ module _ (s : Settings) (run : ℕ) (b : Built) (r : Built-ran s run b) (finishe
   unfolding view
   round-four = finished
 
-  not-refused : answer ≡ 0
+  not-refused : h .answer ≡ 0
   unfolding ask-refusal unfinished-refusal
   not-refused =
       result .answered
@@ -87,17 +91,17 @@ module _ (s : Settings) (run : ℕ) (b : Built) (r : Built-ran s run b) (finishe
   unfolding view who-in who-as
   same-settings = proper .settings
 
-  answered-holds : (k : ℕ) → answered s vs cs k ≡ holds (defined b) k
+  answered-holds : (k : ℕ) → answered s h k ≡ holds (defined b) k
   unfolding answered holds defined
   answered-holds k =
-      ap (λ (u : Settings). getD (held-in u vs cs) (k - 1) none-held) (sym same-settings)
+      ap (λ (u : Settings). getD (held-in u (h .values) (h .confidences)) (k - 1) none-held) (sym same-settings)
       ∙ ap (λ (hs : List Held). getD hs (k - 1) none-held) (result .done not-refused .reads)
 
 pub built-gradecast : Built-gradecast
 unfolding Built-gradecast Gradecast defined
-built-gradecast s run bs g h x c i j l e f a b vs cs us ks p q = (
-  not-refused s run g (c .ran g i) e a vs cs p,
-  not-refused s run h (c .ran h j) f b us ks q,
+built-gradecast s run bs g h x c i j l e f a b p q = (
+  not-refused s run g (c .ran g i) e a p,
+  not-refused s run h (c .ran h j) f b q,
   record {
     near = λ k u v. rw (g-holds k, h-holds k) (agree .near k u v);
     values = λ k u v m n. rw (g-holds k, h-holds k) (agree .values k u v (rw (g-holds k) at m) (rw (h-holds k) at n));
@@ -105,13 +109,35 @@ built-gradecast s run bs g h x c i j l e f a b vs cs us ks p q = (
   },
 )
   where
-    g-holds : (k : ℕ) → answered s vs cs k ≡ holds (defined g) k
-    g-holds = answered-holds s run g (c .ran g i) e a vs cs p
+    g-holds : (k : ℕ) → answered s a k ≡ holds (defined g) k
+    g-holds = answered-holds s run g (c .ran g i) e a p
 
-    h-holds : (k : ℕ) → answered s us ks k ≡ holds (defined h) k
-    h-holds = answered-holds s run h (c .ran h j) f b us ks q
+    h-holds : (k : ℕ) → answered s b k ≡ holds (defined h) k
+    h-holds = answered-holds s run h (c .ran h j) f b q
 
     agree : Agree (s .n) (holds (defined g)) (holds (defined h)) (defined x .number) (defined x .own)
     agree =
         gradecast s run (map defined bs) (defined g) (defined h) (defined x) (conditions-follow s run bs c) (among-map defined i) (among-map defined j)
-        (among-map defined l) (round-four s run g (c .ran g i) e a vs cs p) (round-four s run h (c .ran h j) f b us ks q)
+        (among-map defined l) (round-four s run g (c .ran g i) e a p) (round-four s run h (c .ran h j) f b q)
+
+-- what a round told of a column stands in the front of its array
+told-inside : (most k : ℕ) (told array : List ℕ) → array ≡ padded most-columns told → Few-told most told k → Few-told most array k
+unfolding padded in-front
+told-inside most k told array e f =
+    record { not-missing = λ z. f .not-missing (sym same ∙ z); not-none = λ z. f .not-none (sym same ∙ z); few = rw same (f .few) }
+  where
+    inside : (q : Bool) → ltb (k - 1) (length told) ≡ q → k - 1 < length told
+    inside true h = ltb-true (k - 1) (length told) h
+    inside false h = absurd (f .not-missing (List·getD-eq-default told told-missing (ltb-false (k - 1) (length told) h)))
+
+    same : getD array (k - 1) told-missing ≡ getD told (k - 1) told-missing
+    same = ap (λ (bs : List ℕ). getD bs (k - 1) told-missing) e ∙ List·getD-append told _ told-missing (k - 1) (inside _ refl)
+
+pub built-told : Built-told
+unfolding Built-told Good-told defined
+built-told s run bs g x c i l e p says =
+    let fine = not-refused s run g (c .ran g i) e p says in
+    let told =
+    good-told s run (map defined bs) (defined g) (defined x) (conditions-follow s run bs c) (among-map defined i) (among-map defined l)
+    (round-four s run g (c .ran g i) e p says) in
+    (fine, told-inside _ (x .number) _ _ (says .two fine) (told .0), told-inside _ (x .number) _ _ (says .three fine) (told .1))

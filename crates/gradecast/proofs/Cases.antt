@@ -58,18 +58,19 @@ unfoldable pub alone : (m run : ℕ) → Rec
 alone zero run = opened (settings 1 0 1) 1 run (7 ∷ [])
 alone (suc m) run =
     next-round (alone m run)
-    (found-as ((7 ∷ []) ∷ []) (cond (leb 1 m) ((7 ∷ []) ∷ []) []) (cond (leb 2 m) (held-as (7 ∷ []) 2 ∷ []) []))
+    (found-as ((7 ∷ []) ∷ []) (cond (leb 1 m) ((7 ∷ []) ∷ []) []) (cond (leb 2 m) (held-as (7 ∷ []) 2 ∷ []) []) (cond (leb 1 m) (0 ∷ []) [])
+    (cond (leb 2 m) (0 ∷ []) []))
 
-own-table : (r : Rec) (v : Vector) → r .who .settings .n ≡ 1 → r .who .number ≡ 1 → Table r v (v ∷ [])
+own-table : (r : Rec) (v : Vector) → r .who .settings .n ≡ 1 → r .who .number ≡ 1 → Table r v (v ∷ []) (0 ∷ [])
 own-table r v e f =
-    record { many = sym e; own-row = rw f refl; others = λ k a b other. absurd (other (let one : k ≡ r .who .number = omega arith in one)) }
+    record { many = sym e; told-many = sym e; own-row = rw f refl; own-told = rw f refl; others = λ k a b other. absurd (other (let one : k ≡ r .who .number = omega arith in one)) }
 
 pub alone-finishes : (run : ℕ) → Run (opened (settings 1 0 1) 1 run (7 ∷ [])) (closing ∷ closing ∷ closing ∷ []) (alone 3 run)
 unfolding alone Leads After-close Closed close-refusal record-refusal first-of line settings settings-refusal number-refusal blank-refusal round-refusal is-blank opened who-as found-as next-round heard-vector heard-at entries agreed-vector agreed-at held-list held-at held-of held-as most most-from next-best better better-by found same blank value-size bytes-before agreed-least sure-least
 alone-finishes run =
     one-call (alone 0 run) (alone 1 run) (alone 3 run) closing _ refl
-    (one-call (alone 1 run) (alone 2 run) (alone 3 run) closing _ (((7 ∷ []) ∷ []) ∷ [], own-table (alone 1 run) ((7 ∷ []) ∷ []) refl refl, refl)
-    (one-call (alone 2 run) (alone 3 run) (alone 3 run) closing _ (((7 ∷ []) ∷ []) ∷ [], own-table (alone 2 run) ((7 ∷ []) ∷ []) refl refl, refl) (no-call (alone 3 run))))
+    (one-call (alone 1 run) (alone 2 run) (alone 3 run) closing _ (((7 ∷ []) ∷ []) ∷ [], 0 ∷ [], own-table (alone 1 run) ((7 ∷ []) ∷ []) refl refl, refl)
+    (one-call (alone 2 run) (alone 3 run) (alone 3 run) closing _ (((7 ∷ []) ∷ []) ∷ [], 0 ∷ [], own-table (alone 2 run) ((7 ∷ []) ∷ []) refl refl, refl) (no-call (alone 3 run))))
 
 pub alone-ends-in-four : (run : ℕ) → alone 3 run .round ≡ 4
 unfolding alone next-round opened

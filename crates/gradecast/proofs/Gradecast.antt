@@ -1,6 +1,7 @@
 -- Demand 3. Every good column hears every good column's own value, so X of each has the good columns' V as rows. By the counting half Y
 -- of each then has every good column's own value, so Z of each has the good columns' Y as rows, and the counting half gives
--- confidences at most one apart, equal values above 0, and own values at confidence 2. Assumes nothing.
+-- confidences at most one apart, equal values above 0, and own values at confidence 2. What both tables told of good columns is few.
+-- Assumes nothing.
 use mathlib.Core.Path.{_≡_, sym, _∙_, ap, subst}
 use mathlib.Core.Bool.{true, false}
 use mathlib.Core.List.{List, []}
@@ -13,12 +14,12 @@ use Rattle.grading.specs.Held.{Held, held-as}
 use Rattle.grading.specs.Count.{agreed-at, agreed-vector, held-at, held-list}
 use Rattle.grading.proofs.Value.{entries-at}
 use Rattle.grading.specs.Promise.{member, Carries, Agreed-from, Second, Graded, Grades-agree}
-use Rattle.gradecast.specs.Promise.{Among, Good, numbers, none-held, holds, Agree, Gradecast}
+use Rattle.gradecast.specs.Promise.{Among, Good, numbers, none-held, holds, bad-count, Few-told, Good-told, Agree, Gradecast}
 use Rattle.grading.proofs.Agreement.{agreed-own, grades-agree}
 use Rattle.gradecast.proofs.Walk.{kept}
 use Rattle.gradecast.proofs.Goods.{among-member, of-number, of-number-is, by-number}
 use Rattle.gradecast.proofs.Handed.{Group, group-of, opens, numbered, one-or-two, proper, onward}
-use Rattle.gradecast.proofs.Rounds.{second, third, said, closed, heard-own, carries}
+use Rattle.gradecast.proofs.Rounds.{second, third, said, closed, heard-own, carries, tells}
 
 agreed-entry : (s : Settings) (rows : Rows) (j : ℕ) → j < s .n → getD (agreed-vector s rows) j [] ≡ agreed-at s rows j
 unfolding agreed-vector
@@ -54,7 +55,7 @@ module _ {s : Settings} {run : ℕ} {gs : List Good} (group : Group s run gs) (r
       let y = x .way .two (x .in-round) in
       record {
         rows = y .0;
-        carries = carries group second (λ b j. (omega (arith, reached b j))) heard-owns a i x (y .0) (y .1);
+        carries = carries group second (λ b j. (omega (arith, reached b j))) heard-owns a i x (y .0) _ (y .1);
         entry =
             λ j h.
             ap (λ (v : Vector). getD v j []) (kept (x .from) .agreed (omega (arith, x .way .round, x .in-round)) ∙ y .2)
@@ -96,7 +97,7 @@ module _ {s : Settings} {run : ℕ} {gs : List Good} (group : Group s run gs) (r
       let y = x .way .three (x .in-round) in
       record {
         rows = y .0;
-        table = carries group third reached agreed-owns g i x (y .0) (y .1);
+        table = carries group third reached agreed-owns g i x (y .0) _ (y .1);
         entry =
             λ k l h.
             ap (λ (v : List Held). getD v (k - 1) none-held) (kept (x .from) .held (omega (arith, x .way .round, x .in-round)) ∙ y .2)
@@ -137,6 +138,24 @@ module _ {s : Settings} {run : ℕ} {gs : List Good} (group : Group s run gs) (r
       own-of t q =
           t .entry (x .number) (opens group x l .low) (opens group x l .high) ∙ q
           ∙ ap (λ (v : Value). held-as v 2) (of-number-is [] (λ y. y .own) (group .conditions .different) l)
+
+  -- what its tables of rounds two and three told
+  few-told :
+      (g x : Good) → Among g gs → Among x gs → g .last .round ≡ 4 →
+      Few-told (bad-count s gs) (g .last .found .told-two) (x .number) × Few-told (bad-count s gs) (g .last .found .told-three) (x .number)
+  few-told g x i l e =
+      let v = closed group g i 2 (omega arith) (omega arith) in
+      let y = v .way .two (v .in-round) in
+      let w = closed group g i 3 (omega arith) (omega arith) in
+      let z = w .way .three (w .in-round) in (
+        rw (kept (v .from) .two (omega (arith, v .way .round, v .in-round)))
+            (tells group second (λ b j. (omega (arith, reached b j))) heard-owns g i v (y .0) _ (y .1) x l),
+        rw (kept (w .from) .three (omega (arith, w .way .round, w .in-round))) (tells group third reached agreed-owns g i w (z .0) _ (z .1) x l),
+      )
+
+pub good-told : Good-told
+unfolding Good-told
+good-told s run gs g x c i l e = let group = group-of c g i in few-told group (all-reached group g i e) g x i l e
 
 pub gradecast : Gradecast
 unfolding Gradecast

@@ -9,4 +9,6 @@ pub mod Cases
 pub mod Building
 pub mod Testing
 pub mod Examples
+pub mod EveryStep
 pub mod NothingFollows
+pub mod NothingTold

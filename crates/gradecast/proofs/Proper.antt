@@ -76,16 +76,16 @@ heard-sized r own operands =
     go j false none g = blank-size (r .who .settings)
     go j false (some x) g = operands j x g
 
-agreed-sized : (r : Rec) (rows : Rows) → 1 ≤ r .who .number → Sized (r .who .settings) (r .found .heard) → Table r (r .found .heard) rows → Sized (r .who .settings) (agreed-vector (r .who .settings) rows)
+agreed-sized : (r : Rec) (rows : Rows) (told : List ℕ) → 1 ≤ r .who .number → Sized (r .who .settings) (r .found .heard) → Table r (r .found .heard) rows told → Sized (r .who .settings) (agreed-vector (r .who .settings) rows)
 unfolding agreed-vector
-agreed-sized r rows low v t =
+agreed-sized r rows told low v t =
     record {
       many = entries-length (r .who .settings .n) 0 (agreed-at (r .who .settings) rows);
       each =
           λ j h.
           ap length (entries-at (r .who .settings .n) 0 j (agreed-at (r .who .settings) rows) [] h)
           ∙ agreed-is (λ u. length u ≡ value-size (r .who .settings)) (r .who .settings) rows (0 + j) (blank-size (r .who .settings))
-          (λ i l. table-sized r (r .found .heard) rows low v t i (rw (t .many) at l) .each (0 + j) (omega arith));
+          (λ i l. table-sized r (r .found .heard) rows told low v t i (rw (t .many) at l) .each (0 + j) (omega arith));
     }
 
 module _ (s : Settings) (k run : ℕ) (v : Value) (o : Opens s k v) where
@@ -188,7 +188,7 @@ module _ (s : Settings) (k run : ℕ) (v : Value) (o : Opens s k v) where
           let t = x .two (sym e) in
           rw (t .2)
           (subst (λ (u : Settings). Sized u (agreed-vector (r .who .settings) (t .0))) (p .settings)
-          (agreed-sized r (t .0) (rw (p .number) (o .low)) (rw (p .settings) (p .heard (omega (arith, e)))) (t .1)))
+          (agreed-sized r (t .0) (q .found .told-two) (rw (p .number) (o .low)) (rw (p .settings) (p .heard (omega (arith, e)))) (t .1)))
       agreed (inr e) = rw (x .agreed-kept e) (p .agreed e)
 
   pub proper-step : (c : Call) (r q : Rec) → Proper s k run v r → Step r q c → Proper s k run v q

@@ -1,26 +1,28 @@
 -- The rounds of good columns. In round one each hears every other's own value. In a round of checks, if the vectors that good columns
--- code have every good column's own value, two of them differ in at most t values, so that what each sends is repaired to its vector by
--- any other, and the good rows of each one's table are the good columns' vectors. Rounds two and three are alike in this.
+-- code have every good column's own value, two of them differ at bad columns alone, so that what each sends is repaired to its vector by
+-- any other, and changes at most as many places as there are bad columns: the good rows of each one's table are the good columns' vectors.
+-- Rounds two and three are alike in this.
 -- Assumes nothing.
 use mathlib.Core.Path.{_≡_, refl, sym, _∙_, ap, subst}
 use mathlib.Core.Bool.{Bool, true, cond}
-use mathlib.Core.List.{List, []}
-use Prim.Native.Nat.{ℕ, _+_, _-_, _<_, _≤_}
+use mathlib.Core.List.{List, [], _∷_}
+use Prim.Native.Nat.{ℕ, zero, suc, _+_, _-_, _<_, _≤_}
 use native.Mathlib.Omega.{arith}
 use lib.Dec.{eqb}
-use lib.ListN.{getD}
+use lib.ListN.{length, getD}
 use borrow.Author.Tests.{eq-eqb, ne-eqb}
 use Rattle.code.specs.Settings.{Settings}
 use Rattle.code.specs.Vector.{is-vector, has-checks, differ-values}
+use Rattle.code.proofs.ValidSettings.{sizes}
 use Rattle.grading.specs.Value.{Vector, Rows}
 use Rattle.grading.proofs.Value.{entries-at}
 use Rattle.record.specs.Frame.{operand-in, checks-in}
-use Rattle.record.specs.Record.{Rec, opened, counted}
+use Rattle.record.specs.Record.{Rec, told-missing, opened, counted}
 use Rattle.rounds.specs.Exchange.{value-or-blank, heard-at, heard-vector, Table}
 use Rattle.column.specs.Call.{Call, Operand}
-use Rattle.gradecast.specs.Promise.{Among, Good, numbers, On}
+use Rattle.gradecast.specs.Promise.{Among, Good, numbers, On, bad-count, Few-told}
 use Rattle.grading.specs.Promise.{Carries}
-use Rattle.grading.proofs.Agreement.{differ-le-t}
+use Rattle.grading.proofs.Agreement.{unlisted-le-t, differ-le-bad}
 use Rattle.column.proofs.Frame.{frame-operand}
 use Rattle.rounds.proofs.Rows.{Sized, row-alike, checked-vector, row-of-sender}
 use Rattle.gradecast.proofs.Proper.{Proper}
@@ -65,7 +67,18 @@ unfolding heard-vector
 value-in-slot r k l h =
     entries-at (r .who .settings .n) 1 (k - 1) (heard-at r) [] (omega arith) ∙ ap (heard-at r) (let e : 1 + (k - 1) ≡ k = omega arith in e)
 
+-- what stands inside a list is the same whatever stands for what is not there
+getD-inside : (xs : List ℕ) (i d e : ℕ) → i < length xs → getD xs i d ≡ getD xs i e
+getD-inside [] i d e h = absurd (omega arith)
+getD-inside (x ∷ xs) zero d e h = refl
+getD-inside (x ∷ xs) (suc i) d e h = getD-inside xs i d e (omega arith)
+
 module _ {s : Settings} {run : ℕ} {gs : List Good} (group : Group s run gs) where
+  -- at most t columns are bad
+  bad-le-t : bad-count s gs ≤ s .t
+  unfolding bad-count
+  bad-le-t = unlisted-le-t s (numbers gs) (numbered group) (s .n) refl
+
   -- where a good column closed a round that is past
   pub closed : (a : Good) → Among a gs → (m : ℕ) → 1 ≤ m → m < a .last .round → Closing (opened s (a .number) run (a .own)) (a .last) (a .calls) [] m
   closed a i m l h = closing-of m (last-on group a i) (omega (arith, opened-one s run a)) h
@@ -134,37 +147,57 @@ module _ {s : Settings} {run : ℕ} {gs : List Good} (group : Group s run gs) wh
         checked-vector s (said c a) _ (said-checks a i (f .on) (f .in-round) (operand-in (sent .0)) operand) (said-sized a i)
 
     module _ (own : (a b : Good) → Among a gs → Among b gs → getD (said c a) (b .number - 1) [] ≡ b .own) where
-      said-near : (a b : Good) → Among a gs → Among b gs → differ-values (said c a) (said c b) ≤ s .t
+      said-near : (a b : Good) → Among a gs → Among b gs → differ-values (said c a) (said c b) ≤ bad-count s gs
+      unfolding bad-count
       said-near a b i j =
-          differ-le-t s (numbers gs) (numbered group) (said c a) (said c b) (said-sized a i .many) (said-sized b j .many)
+          differ-le-bad s (numbers gs) (numbered group) (said c a) (said c b) (said-sized a i .many) (said-sized b j .many)
           (by-number (λ m. getD (said c a) (m - 1) [] ≡ getD (said c b) (m - 1) []) gs (λ x k. own a x i k ∙ sym (own b x j k)))
 
-      pub carries : (a : Good) → Among a gs → (x : Closing (opened s (a .number) run (a .own)) (a .last) (a .calls) [] (round-number c)) → (rows : Rows) →
-          Table (x .before) (vector-in c (x .before)) rows → Carries s (numbers gs) (of-number [] (said c) gs) rows
-      carries a i x rows t =
-          record {
-            many = t .many ∙ ap (λ (u : Settings). u .n) (p .settings);
-            row =
-                by-number (λ m. getD rows (m - 1) [] ≡ of-number [] (said c) gs m) gs
-                (λ b j. (one-or-two group a b i j itself (another b j)) ∙ sym (of-number-is [] (said c) (group .conditions .different) j));
-          }
-        where
-          r : Rec
-          r = x .before
+      -- a good column's table, where it closes that round
+      module _ (a : Good) (i : Among a gs) (x : Closing (opened s (a .number) run (a .own)) (a .last) (a .calls) [] (round-number c)) (rows : Rows) (told : List ℕ)
+          (t : Table (x .before) (vector-in c (x .before)) rows told) where
+        p : Proper s (a .number) run (a .own) (x .before)
+        p = proper group a i (x .to)
 
-          p : Proper s (a .number) run (a .own) r
-          p = proper group a i (x .to)
+        mine : vector-in c (x .before) ≡ said c a
+        mine = said-on a i (x .to) (omega (arith, x .in-round))
 
-          mine : vector-in c r ≡ said c a
-          mine = said-on a i (x .to) (omega (arith, x .in-round))
+        -- a good column's row is its vector, and tells at most as many places as there are bad columns
+        row-said : (b : Good) → Among b gs → (getD rows (b .number - 1) [] ≡ said c b) × (getD told (b .number - 1) 0 ≤ bad-count s gs)
+        row-said b j = one-or-two group a b i j itself another
+          where
+            itself : a ≡ b → (getD rows (b .number - 1) [] ≡ said c b) × (getD told (b .number - 1) 0 ≤ bad-count s gs)
+            itself e =
+                let own = ap (λ (k : ℕ). getD told (k - 1) 0) (sym (p .number)) ∙ t .own-told in
+                rw (← e) (ap (λ (k : ℕ). getD rows (k - 1) []) (sym (p .number)) ∙ t .own-row ∙ mine, omega arith)
 
-          itself : {b : Good} → a ≡ b → getD rows (b .number - 1) [] ≡ said c b
-          itself e = rw (← e) (ap (λ (k : ℕ). getD rows (k - 1) []) (sym (p .number)) ∙ t .own-row ∙ mine)
+            another : (a .number ≡ b .number → ⊥) → (getD rows (b .number - 1) [] ≡ said c b) × (getD told (b .number - 1) 0 ≤ bad-count s gs)
+            another d =
+                let g = got group a b i j d (round-number c) x (omega (arith, low c)) (high c) in
+                let row = t .others (b .number) (opens group b j .low) (rw (p .settings) (opens group b j .high)) (λ e. d (sym (p .number) ∙ sym e)) in
+                let near = said-near a b i j in
+                let bad = bad-le-t in
+                let sent =
+                row-of-sender s (said c a) (said c b) (g .x) (getD rows (b .number - 1) []) (getD told (b .number - 1) 0) (group .fine) (said-vector a b i j d)
+                (said-vector b a j i (λ e. d (sym e))) (said-checks b j (g .on) (g .in-round) (g .x) (g .operand)) (omega arith)
+                (row-alike (getD rows (b .number - 1) []) (getD told (b .number - 1) 0) (p .settings) mine (g .stands) row) in
+                (sent .0, omega (arith, sent .1))
 
-          another : (b : Good) → Among b gs → (a .number ≡ b .number → ⊥) → getD rows (b .number - 1) [] ≡ said c b
-          another b j d =
-              let g = got group a b i j d (round-number c) x (omega (arith, low c)) (high c) in
-              let row = t .others (b .number) (opens group b j .low) (rw (p .settings) (opens group b j .high)) (λ e. d (sym (p .number) ∙ sym e)) in
-              row-of-sender s (said c a) (said c b) (g .x) (getD rows (b .number - 1) []) (group .fine) (said-vector a b i j d) (said-vector b a j i (λ e. d (sym e)))
-              (said-checks b j (g .on) (g .in-round) (g .x) (g .operand)) (said-near a b i j)
-              (row-alike (getD rows (b .number - 1) []) (p .settings) mine (g .stands) row)
+        pub carries : Carries s (numbers gs) (of-number [] (said c) gs) rows
+        carries =
+            record {
+              many = t .many ∙ ap (λ (u : Settings). u .n) (p .settings);
+              row =
+                  by-number (λ m. getD rows (m - 1) [] ≡ of-number [] (said c) gs m) gs
+                  (λ b j. row-said b j .0 ∙ sym (of-number-is [] (said c) (group .conditions .different) j));
+            }
+
+        pub tells : (b : Good) → Among b gs → Few-told (bad-count s gs) told (b .number)
+        tells b j =
+            let inside : b .number - 1 < length told =
+            omega (arith, t .told-many ∙ ap (λ (u : Settings). u .n) (p .settings), opens group b j .low, opens group b j .high) in
+            let same = getD-inside told (b .number - 1) told-missing 0 inside in
+            let few = row-said b j .1 in
+            let bad = bad-le-t in
+            let t-few = sizes s (group .fine) in
+            record { not-missing = λ e. absurd (omega arith); not-none = λ e. absurd (omega arith); few = omega arith }

@@ -29,9 +29,22 @@ pub record Kept (r q : Rec) : Type 0 where
   pub heard : 2 ≤ r .round → q .found .heard ≡ r .found .heard
   pub agreed : 3 ≤ r .round → q .found .agreed ≡ r .found .agreed
   pub held : 4 ≤ r .round → q .found .held ≡ r .found .held
+  pub two : 3 ≤ r .round → q .found .told-two ≡ r .found .told-two
+  pub three : 4 ≤ r .round → q .found .told-three ≡ r .found .told-three
+
+kept-found : (r q : Rec) → r .round ≤ q .round → q .found ≡ r .found → Kept r q
+kept-found r q up e =
+    record {
+      up = up;
+      heard = λ h. ap (λ (f : Found). f .heard) e;
+      agreed = λ h. ap (λ (f : Found). f .agreed) e;
+      held = λ h. ap (λ (f : Found). f .held) e;
+      two = λ h. ap (λ (f : Found). f .told-two) e;
+      three = λ h. ap (λ (f : Found). f .told-three) e;
+    }
 
 kept-self : (r : Rec) → Kept r r
-kept-self r = record { up = omega arith; heard = λ h. refl; agreed = λ h. refl; held = λ h. refl }
+kept-self r = kept-found r r (omega arith) refl
 
 kept-join : (r q z : Rec) → Kept r q → Kept q z → Kept r z
 kept-join r q z a b =
@@ -40,16 +53,26 @@ kept-join r q z a b =
       heard = λ h. b .heard (omega (arith, a .up)) ∙ a .heard h;
       agreed = λ h. b .agreed (omega (arith, a .up)) ∙ a .agreed h;
       held = λ h. b .held (omega (arith, a .up)) ∙ a .held h;
+      two = λ h. b .two (omega (arith, a .up)) ∙ a .two h;
+      three = λ h. b .three (omega (arith, a .up)) ∙ a .three h;
     }
 
 kept-frame : (r : Rec) (p k : ℕ) (x : List ℕ) → Kept r (with-frame r p k x)
 unfolding with-frame
-kept-frame r p k x = record { up = omega arith; heard = λ h. refl; agreed = λ h. refl; held = λ h. refl }
+kept-frame r p k x = kept-found r (with-frame r p k x) (omega arith) refl
 
 pub kept-step : (r q : Rec) (c : Call) → Step r q c → Kept r q
-kept-step r q c (stays d u) = record { up = omega (arith, u .round); heard = λ h. ap (λ (f : Found). f .heard) (u .found); agreed = λ h. ap (λ (f : Found). f .agreed) (u .found); held = λ h. ap (λ (f : Found). f .held) (u .found) }
+kept-step r q c (stays d u) = kept-found r q (omega (arith, u .round)) (u .found)
 kept-step r q c (takes j bs e g) = subst (Kept r) (sym g) (kept-frame r (round-in bs) j (operand-in bs))
-kept-step r q c (closes x) = record { up = omega (arith, x .round); heard = x .heard-kept; agreed = x .agreed-kept; held = λ h. absurd (omega (arith, x .high)) }
+kept-step r q c (closes x) =
+    record {
+      up = omega (arith, x .round);
+      heard = x .heard-kept;
+      agreed = x .agreed-kept;
+      held = λ h. absurd (omega (arith, x .high));
+      two = x .two-kept;
+      three = λ h. absurd (omega (arith, x .high));
+    }
 
 pub kept : {r z : Rec} {cs rest : List Call} → Passes r cs z rest → Kept r z
 kept (here r cs) = kept-self r

@@ -4,8 +4,9 @@ use mathlib.Core.Path.{_≡_}
 use mathlib.Core.Bool.{true}
 use mathlib.Core.List.{List, [], _∷_, map}
 use Prim.Native.Nat.{ℕ, _+_, _-_, _≤_}
-use lib.ListN.{length, getD}
+use lib.ListN.{length, getD, replicate}
 use Rattle.code.specs.Settings.{Settings}
+use Rattle.code.specs.Size.{most-columns}
 use Rattle.grading.specs.Value.{Value}
 use Rattle.grading.specs.Held.{Held, held-in}
 use Rattle.grading.specs.Promise.{all-different}
@@ -14,7 +15,8 @@ use Rattle.record.specs.View.{view}
 use Rattle.record.specs.Stored.{empty-slots}
 use Rattle.column.specs.Entry.{Open-says, Take-says, Send-says, Close-says, Result-says}
 use Rattle.record.specs.declared.Column.{Column}
-use Rattle.gradecast.specs.Promise.{Among, Good, numbers, none-held, Fair, Agree}
+use Rattle.record.specs.declared.Holdings.{Holdings}
+use Rattle.gradecast.specs.Promise.{Among, Good, numbers, none-held, Fair, bad-count, Few-told, Agree}
 
 -- a call on a record and the record after it, refused or not: what `take`, `send`, `close` and `result` say; `send` and `result` give
 -- no record back, so that the one lent stays
@@ -22,7 +24,7 @@ pub data Built-step : Column → Call → Column → Type 0 where
   takes : (c d : Column) (slot answer : ℕ) (frame : List ℕ) → Take-says c slot frame answer d → Built-step c (taking slot frame) d
   sends : (c : Column) (answer : ℕ) (buffer buffer-now : List ℕ) → Send-says c buffer answer buffer-now → Built-step c (sending (length buffer)) c
   closes : (c d : Column) (answer : ℕ) → Close-says c answer d → Built-step c closing d
-  asks : (c : Column) (answer : ℕ) (values confidences : List ℕ) → Result-says c answer values confidences → Built-step c asking c
+  asks : (c : Column) (h : Holdings) → Result-says c h → Built-step c asking c
 
 -- a list of calls, each on the record as the call before left it
 pub data Built-run : Column → List Call → Column → Type 0 where
@@ -55,15 +57,30 @@ pub record Built-conditions (s : Settings) (run : ℕ) (bs : List Built) : Type 
   pub fair : (a b : Built) → Among a bs → Among b bs → (a .number ≡ b .number → ⊥) → Fair s run (defined a) (defined b)
 
 -- the value and confidence about a column that `result` answered
-unfoldable pub answered : Settings → (values confidences : List ℕ) → (column : ℕ) → Held
-answered s vs cs k = getD (held-in s vs cs) (k - 1) none-held
+unfoldable pub answered : Settings → Holdings → (column : ℕ) → Held
+answered s h k = getD (held-in s (h .values) (h .confidences)) (k - 1) none-held
 
 -- demand 3 of the calls as built: `result` refuses none of two good columns that have finished, and what it answers of both agrees
 unfoldable pub Built-gradecast : Type 0
 Built-gradecast =
     (s : Settings) (run : ℕ) (bs : List Built) (g h x : Built) → Built-conditions s run bs → Among g bs → Among h bs → Among x bs →
-    g .last .round ≡ 4 → h .last .round ≡ 4 → (a b : ℕ) (vs cs us ks : List ℕ) → Result-says (g .last) a vs cs → Result-says (h .last) b us ks →
-    (a ≡ 0) × (b ≡ 0) × Agree (s .n) (answered s vs cs) (answered s us ks) (x .number) (x .own)
+    g .last .round ≡ 4 → h .last .round ≡ 4 → (p q : Holdings) → Result-says (g .last) p → Result-says (h .last) q →
+    (p .answer ≡ 0) × (q .answer ≡ 0) × Agree (s .n) (answered s p) (answered s q) (x .number) (x .own)
+
+-- what rounds two and three told, of the calls as built: `result` does not refuse a good column that has finished, and what it answers of a
+-- good one is no mark, and at most as many places as there are bad columns
+unfoldable pub Built-told : Type 0
+Built-told =
+    (s : Settings) (run : ℕ) (bs : List Built) (g x : Built) → Built-conditions s run bs → Among g bs → Among x bs → g .last .round ≡ 4 →
+    (p : Holdings) → Result-says (g .last) p →
+    (p .answer ≡ 0) × Few-told (bad-count s (map defined bs)) (p .«told_two») (x .number)
+    × Few-told (bad-count s (map defined bs)) (p .«told_three») (x .number)
+
+-- a round tells nothing before it is closed: until then its list is zeros to the byte
+unfoldable pub Nothing-told : Type 0
+Nothing-told =
+    (s : Settings) (run : ℕ) (b : Built) → Built-ran s run b →
+    (b .last .round ≤ 2 → b .last .found .«told_two» ≡ replicate most-columns 0) × (b .last .round ≤ 3 → b .last .found .«told_three» ≡ replicate most-columns 0)
 
 -- in round three nothing follows: from then on the early slots of a column are empty to the byte, and at the end all of its slots are
 unfoldable pub Nothing-follows : Type 0

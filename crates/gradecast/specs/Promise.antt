@@ -7,9 +7,9 @@ use lib.ListN.{length, getD}
 use Rattle.code.specs.Settings.{Settings}
 use Rattle.grading.specs.Value.{Value}
 use Rattle.grading.specs.Held.{Held, held-as}
-use Rattle.grading.specs.Promise.{all-different, apart}
+use Rattle.grading.specs.Promise.{all-different, unlisted, apart}
 use Rattle.record.specs.Frame.{header-size, run-in}
-use Rattle.record.specs.Record.{Rec, opened, In-time}
+use Rattle.record.specs.Record.{Rec, told-missing, told-none, opened, In-time}
 use Rattle.record.specs.Refusal.{open-refusal}
 use Rattle.column.specs.Call.{Call, taking, Run, Passes, Frame-of}
 
@@ -84,6 +84,24 @@ pub record Agree (n : ℕ) (g h : (column : ℕ) → Held) (number : ℕ) (own :
   pub near : (k : ℕ) → 1 ≤ k → k ≤ n → apart (g k .confidence) (h k .confidence) ≤ 1
   pub values : (k : ℕ) → 1 ≤ k → k ≤ n → 1 ≤ g k .confidence → 1 ≤ h k .confidence → g k .value ≡ h k .value
   pub own-value : (g number ≡ held-as own 2) × (h number ≡ held-as own 2)
+
+-- the count of bad columns: the numbers from 1 to n that no good column has
+unfoldable pub bad-count : Settings → List Good → ℕ
+bad-count s gs = unlisted (numbers gs) (s .n) 1
+
+-- what a round told of a column is a number of places, no mark, and at most so many; a list that has nothing of it says that its frame was
+-- missing
+pub record Few-told (most : ℕ) (told : List ℕ) (column : ℕ) : Type 0 where
+  pub not-missing : getD told (column - 1) told-missing ≡ told-missing → ⊥
+  pub not-none : getD told (column - 1) told-missing ≡ told-none → ⊥
+  pub few : getD told (column - 1) told-missing ≤ most
+
+-- what rounds two and three told a good column that has finished of a good one: at most as many places as there are bad columns; the two
+-- may also be one and the same
+unfoldable pub Good-told : Type 0
+Good-told =
+    (s : Settings) (run : ℕ) (gs : List Good) (g x : Good) → Conditions s run gs → Among g gs → Among x gs → g .last .round ≡ 4 →
+    Few-told (bad-count s gs) (g .last .found .told-two) (x .number) × Few-told (bad-count s gs) (g .last .found .told-three) (x .number)
 
 -- demand 3: any two good columns that have finished agree; two may also be one and the same
 unfoldable pub Gradecast : Type 0

@@ -16,21 +16,20 @@ use Rattle.grading.specs.Value.{Value, Vector, Rows, is-blank}
 use Rattle.grading.specs.Held.{held-as}
 use Rattle.grading.specs.Count.{found, most, agreed-least, sure-least, likely-least, agreed-at, held-of, held-at}
 use Rattle.grading.proofs.Value.{differ-of-not-same}
-use Rattle.grading.specs.Promise.{member, apart, Numbered, Carries, Second, Graded, Grades-agree}
-use Rattle.grading.proofs.Count.{missing, missing-few, found-near, found-all, found-at, found-two, differ-few}
+use Rattle.grading.specs.Promise.{member, unlisted, apart, Numbered, Carries, Second, Graded, Grades-agree}
+use Rattle.grading.proofs.Count.{unlisted-few, found-near, found-all, found-at, found-two, differ-few}
 use Rattle.grading.proofs.Most.{most-found, most-of-half}
 use Rattle.grading.proofs.Grade.{agreed-found, agreed-of-often, held-sure, confidence-le, held-some, held-full, apart-le-one}
 
 module _ (s : Settings) (ns : List ℕ) (good : Numbered s ns) where
-  missing-le-t : (k : ℕ) → k ≡ s .n → missing ns k 1 ≤ s .t
-  missing-le-t k e = rw e (omega (arith, missing-few (s .n) ns (good .inside) (good .different), good .many))
+  pub unlisted-le-t : (k : ℕ) → k ≡ s .n → unlisted ns k 1 ≤ s .t
+  unlisted-le-t k e = rw e (omega (arith, unlisted-few (s .n) ns (good .inside) (good .different), good .many))
 
-  -- vectors with the same values at good places differ in at most t
-  pub differ-le-t :
+  -- vectors with the same values at good places differ at bad ones alone, in at most t
+  pub differ-le-bad :
       (us vs : Vector) → length us ≡ s .n → length vs ≡ s .n → ((m : ℕ) → member m ns ≡ true → getD us (m - 1) [] ≡ getD vs (m - 1) []) →
-      differ-values us vs ≤ s .t
-  differ-le-t us vs e f h =
-      omega (arith, differ-few ns us vs 1 (e ∙ sym f) (λ m k g l i. at m k g i), missing-le-t (length us) e)
+      differ-values us vs ≤ unlisted ns (s .n) 1
+  differ-le-bad us vs e f h = rw (← e) (differ-few ns us vs 1 (e ∙ sym f) (λ m k g l i. at m k g i))
     where
       at : (m k : ℕ) → m ≡ 1 + k → member m ns ≡ true → getD us k [] ≡ getD vs k []
       at m k g i = let back : k ≡ m - 1 = omega arith in rw back (h m i)
@@ -45,7 +44,7 @@ module _ (s : Settings) (ns : List ℕ) (good : Numbered s ns) where
           arith,
           found-near ns j v xs ys 1 (x .many ∙ sym (y .many))
               (λ m k e l i. ap (λ (row : Vector). getD row j []) (row-at xs x m k e i ∙ sym (row-at ys y m k e i))),
-          missing-le-t (length xs) (x .many),
+          unlisted-le-t (length xs) (x .many),
         )
 
     found-shared : (xs : Rows) → Carries s ns said xs → (j : ℕ) (v : Value) → ((m : ℕ) → member m ns ≡ true → getD (said m) j [] ≡ v) → s .n ≤ found j v xs + s .t
@@ -53,14 +52,14 @@ module _ (s : Settings) (ns : List ℕ) (good : Numbered s ns) where
         omega (
           arith,
           found-all ns j v xs 1 (λ m k e l i. ap (λ (row : Vector). getD row j []) (row-at xs x m k e i) ∙ h m i),
-          missing-le-t (length xs) (x .many),
+          unlisted-le-t (length xs) (x .many),
           x .many,
         )
 
     found-said : (xs : Rows) → Carries s ns said xs → (j : ℕ) (v : Value) → likely-least s ≤ found j v xs → (m : ℕ) × (member m ns ≡ true) × (getD (said m) j [] ≡ v)
     unfolding likely-least
     found-said xs x j v h =
-        let a = found-at ns j v xs 1 (omega (arith, missing-le-t (length xs) (x .many))) in
+        let a = found-at ns j v xs 1 (omega (arith, unlisted-le-t (length xs) (x .many))) in
         (a .slot, a .listed, ap (λ (row : Vector). getD row j []) (sym (row-at xs x (a .slot) (a .place) (a .at) (a .listed))) ∙ a .entry)
 
     -- what all good columns said stands in Y, and in the result at confidence 2

@@ -17,7 +17,7 @@ use Rattle.code.proofs.Vectors.Planes.{same-equal}
 use Rattle.grading.specs.Value.{Value, Vector, Rows}
 use Rattle.grading.specs.Count.{found}
 use Rattle.grading.proofs.Value.{same-of-equal}
-use Rattle.grading.specs.Promise.{member, all-different}
+use Rattle.grading.specs.Promise.{member, all-different, unlisted}
 
 pub member-here : (m : ℕ) (ns : List ℕ) → member m (m ∷ ns) ≡ true
 unfolding member
@@ -27,53 +27,48 @@ pub member-there : (m x : ℕ) (ns : List ℕ) → member m ns ≡ true → memb
 unfolding member
 member-there m x ns e = or-inr (eqb x m) (member m ns) e
 
--- how many of the slots i, i + 1, .. are not in a list
-unfoldable pub missing : List ℕ → (left i : ℕ) → ℕ
-missing ns zero i = 0
-missing ns (suc l) i = cond (member i ns) 0 1 + missing ns l (suc i)
-
-missing-nil : (l i : ℕ) → missing [] l i ≡ l
-unfolding missing member
-missing-nil zero i = refl
-missing-nil (suc l) i = omega (arith, missing-nil l (suc i))
+unlisted-nil : (l i : ℕ) → unlisted [] l i ≡ l
+unfolding unlisted member
+unlisted-nil zero i = refl
+unlisted-nil (suc l) i = omega (arith, unlisted-nil l (suc i))
 
 lacks-le : (a b : Bool) → cond (a || b) 0 1 ≤ cond b 0 1
 lacks-le true true = omega arith
 lacks-le true false = omega arith
 lacks-le false b = omega arith
 
-missing-le : (x : ℕ) (ns : List ℕ) (l i : ℕ) → missing (x ∷ ns) l i ≤ missing ns l i
-unfolding missing member
-missing-le x ns zero i = omega arith
-missing-le x ns (suc l) i = omega (arith, lacks-le (eqb x i) (member i ns), missing-le x ns l (suc i))
+unlisted-le : (x : ℕ) (ns : List ℕ) (l i : ℕ) → unlisted (x ∷ ns) l i ≤ unlisted ns l i
+unfolding unlisted member
+unlisted-le x ns zero i = omega arith
+unlisted-le x ns (suc l) i = omega (arith, lacks-le (eqb x i) (member i ns), unlisted-le x ns l (suc i))
 
-missing-lt : (x : ℕ) (ns : List ℕ) (l i : ℕ) → i ≤ x → x < i + l → member x ns ≡ false → missing (x ∷ ns) l i < missing ns l i
-unfolding missing member
-missing-lt x ns zero i a b e = absurd (omega arith)
-missing-lt x ns (suc l) i a b e = go (eqb x i) refl (λ f. missing-lt x ns l (suc i) f (omega arith) e)
+unlisted-lt : (x : ℕ) (ns : List ℕ) (l i : ℕ) → i ≤ x → x < i + l → member x ns ≡ false → unlisted (x ∷ ns) l i < unlisted ns l i
+unfolding unlisted member
+unlisted-lt x ns zero i a b e = absurd (omega arith)
+unlisted-lt x ns (suc l) i a b e = go (eqb x i) refl (λ f. unlisted-lt x ns l (suc i) f (omega arith) e)
   where
-    go : (q : Bool) → eqb x i ≡ q → (i < x → missing (x ∷ ns) l (suc i) < missing ns l (suc i)) →
-        cond (q || member i ns) 0 1 + missing (x ∷ ns) l (suc i) < cond (member i ns) 0 1 + missing ns l (suc i)
+    go : (q : Bool) → eqb x i ≡ q → (i < x → unlisted (x ∷ ns) l (suc i) < unlisted ns l (suc i)) →
+        cond (q || member i ns) 0 1 + unlisted (x ∷ ns) l (suc i) < cond (member i ns) 0 1 + unlisted ns l (suc i)
     go true f c =
         let new : member i ns ≡ false = subst (λ (y : ℕ). member y ns ≡ false) (eqb-true x i f) e in
-        rw new (omega (arith, missing-le x ns l (suc i)))
+        rw new (omega (arith, unlisted-le x ns l (suc i)))
     go false f c = let n : x ≢ i = eqb-false x i f in omega (arith, c (omega arith))
 
-pub missing-few : (n : ℕ) (ns : List ℕ) → ((m : ℕ) → member m ns ≡ true → (1 ≤ m) × (m ≤ n)) → all-different ns ≡ true → missing ns n 1 + length ns ≤ n
+pub unlisted-few : (n : ℕ) (ns : List ℕ) → ((m : ℕ) → member m ns ≡ true → (1 ≤ m) × (m ≤ n)) → all-different ns ≡ true → unlisted ns n 1 + length ns ≤ n
 unfolding all-different
-missing-few n [] h e = omega (arith, missing-nil n 1)
-missing-few n (x ∷ ns) h e =
+unlisted-few n [] h e = omega (arith, unlisted-nil n 1)
+unlisted-few n (x ∷ ns) h e =
     let a = and-split (not (member x ns)) (all-different ns) e in
     let x-in = h x (member-here x ns) in
-    let fewer = missing-lt x ns n 1 (x-in .0) (omega (arith, x-in .1)) (not-true _ (a .0)) in
-    omega (arith, fewer, missing-few n ns (λ m f. h m (member-there m x ns f)) (a .1))
+    let fewer = unlisted-lt x ns n 1 (x-in .0) (omega (arith, x-in .1)) (not-true _ (a .0)) in
+    omega (arith, fewer, unlisted-few n ns (λ m f. h m (member-there m x ns f)) (a .1))
 
 -- two tables with the same entries at the slots of a list
 pub found-near :
     (ns : List ℕ) (j : ℕ) (v : Value) (xs ys : Rows) (i : ℕ) → length xs ≡ length ys →
     ((m k : ℕ) → m ≡ i + k → k < length xs → member m ns ≡ true → getD (getD xs k []) j [] ≡ getD (getD ys k []) j []) →
-    found j v xs ≤ found j v ys + missing ns (length xs) i
-unfolding found missing
+    found j v xs ≤ found j v ys + unlisted ns (length xs) i
+unfolding found unlisted
 found-near ns j v [] ys i e h = omega arith
 found-near ns j v (x ∷ xs) [] i e h = absurd (omega arith)
 found-near ns j v (x ∷ xs) (y ∷ ys) i e h =
@@ -86,8 +81,8 @@ found-near ns j v (x ∷ xs) (y ∷ ys) i e h =
 -- a value that stands at all slots of a list
 pub found-all :
     (ns : List ℕ) (j : ℕ) (v : Value) (xs : Rows) (i : ℕ) →
-    ((m k : ℕ) → m ≡ i + k → k < length xs → member m ns ≡ true → getD (getD xs k []) j [] ≡ v) → length xs ≤ found j v xs + missing ns (length xs) i
-unfolding found missing
+    ((m k : ℕ) → m ≡ i + k → k < length xs → member m ns ≡ true → getD (getD xs k []) j [] ≡ v) → length xs ≤ found j v xs + unlisted ns (length xs) i
+unfolding found unlisted
 found-all ns j v [] i h = omega arith
 found-all ns j v (x ∷ xs) i h =
     omega (
@@ -107,14 +102,14 @@ pub record Stands (ns : List ℕ) (j : ℕ) (v : Value) (xs : Rows) (i : ℕ) : 
 stands-later : (ns : List ℕ) (j : ℕ) (v : Value) (x : Vector) (xs : Rows) (i : ℕ) → Stands ns j v xs (suc i) → Stands ns j v (x ∷ xs) i
 stands-later ns j v x xs i a = record { slot = a .slot; place = suc (a .place); at = omega (arith, a .at); listed = a .listed; entry = a .entry }
 
-pub found-at : (ns : List ℕ) (j : ℕ) (v : Value) (xs : Rows) (i : ℕ) → missing ns (length xs) i < found j v xs → Stands ns j v xs i
-unfolding found missing
+pub found-at : (ns : List ℕ) (j : ℕ) (v : Value) (xs : Rows) (i : ℕ) → unlisted ns (length xs) i < found j v xs → Stands ns j v xs i
+unfolding found unlisted
 found-at ns j v [] i h = absurd (omega arith)
 found-at ns j v (x ∷ xs) i h = go (member i ns) (same (getD x j []) v) refl refl h (λ l. stands-later ns j v x xs i (found-at ns j v xs (suc i) l))
   where
     go : (p q : Bool) → member i ns ≡ p → same (getD x j []) v ≡ q →
-        cond p 0 1 + missing ns (length xs) (suc i) < cond q 1 0 + found j v xs →
-        (missing ns (length xs) (suc i) < found j v xs → Stands ns j v (x ∷ xs) i) → Stands ns j v (x ∷ xs) i
+        cond p 0 1 + unlisted ns (length xs) (suc i) < cond q 1 0 + found j v xs →
+        (unlisted ns (length xs) (suc i) < found j v xs → Stands ns j v (x ∷ xs) i) → Stands ns j v (x ∷ xs) i
     go true true e f l later = record { slot = i; place = 0; at = omega arith; listed = e; entry = same-equal _ _ f }
     go true false e f l later = later (omega arith)
     go false true e f l later = later (omega arith)
@@ -135,8 +130,8 @@ found-two j u v (x ∷ xs) h = omega (arith, go (same (getD x j []) u) (same (ge
 -- two vectors with the same values at the slots of a list
 pub differ-few :
     (ns : List ℕ) (us vs : Vector) (i : ℕ) → length us ≡ length vs →
-    ((m k : ℕ) → m ≡ i + k → k < length us → member m ns ≡ true → getD us k [] ≡ getD vs k []) → differ-values us vs ≤ missing ns (length us) i
-unfolding differ-values missing
+    ((m k : ℕ) → m ≡ i + k → k < length us → member m ns ≡ true → getD us k [] ≡ getD vs k []) → differ-values us vs ≤ unlisted ns (length us) i
+unfolding differ-values unlisted
 differ-few ns [] vs i e h = omega arith
 differ-few ns (u ∷ us) [] i e h = absurd (omega arith)
 differ-few ns (u ∷ us) (v ∷ vs) i e h =

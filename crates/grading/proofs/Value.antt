@@ -7,17 +7,12 @@ use Prim.Native.Nat.{ℕ, zero, suc, _+_, _<_, _≤_}
 use native.Mathlib.Omega.{arith}
 use lib.Dec.{eqb}
 use lib.ListN.{length, getD, take, replicate, length-replicate}
-use borrow.Author.Tests.{eq-eqb}
 use Rattle.arrays.specs.Array.{all-zero}
 use Rattle.arrays.proofs.Bool.{true-not-false}
 use Rattle.code.specs.Settings.{Settings, value-size}
 use Rattle.code.specs.Vector.{same}
+use Rattle.code.proofs.Vectors.Planes.{same-self}
 use Rattle.grading.specs.Value.{Value, blank, is-blank, entries}
-
-pub same-self : (a : Value) → same a a ≡ true
-unfolding same
-same-self [] = refl
-same-self (x ∷ xs) = ap₂ _&&_ (eq-eqb x x refl) (same-self xs)
 
 pub same-of-equal : (a b : Value) → a ≡ b → same a b ≡ true
 same-of-equal a b e = rw e (same-self b)

@@ -1,9 +1,9 @@
 -- What is promised of counting over tables of rows, however the rows came. The statement is a type, and proofs/ has its proof. Assumes
 -- nothing.
 use mathlib.Core.Path.{_≡_}
-use mathlib.Core.Bool.{Bool, true, false, _&&_, _||_, not}
+use mathlib.Core.Bool.{Bool, true, false, _&&_, _||_, not, cond}
 use mathlib.Core.List.{List, [], _∷_}
-use Prim.Native.Nat.{ℕ, _+_, _*_, _-_, _≤_, _<_}
+use Prim.Native.Nat.{ℕ, zero, suc, _+_, _*_, _-_, _≤_, _<_}
 use lib.Dec.{eqb}
 use lib.ListN.{length, getD}
 use Rattle.code.specs.Settings.{Settings}
@@ -20,6 +20,11 @@ member v (x ∷ xs) = eqb x v || member v xs
 unfoldable pub all-different : List ℕ → Bool
 all-different [] = true
 all-different (x ∷ xs) = not (member x xs) && all-different xs
+
+-- how many of the numbers from i on, so many of them, are not in a list
+unfoldable pub unlisted : List ℕ → (many i : ℕ) → ℕ
+unlisted ns zero i = 0
+unlisted ns (suc l) i = cond (member i ns) 0 1 + unlisted ns l (suc i)
 
 -- how far two confidences are apart
 unfoldable pub apart : (a b : ℕ) → ℕ

@@ -16,6 +16,7 @@ use Rattle.record.specs.Refusal.{ask-refusal}
 use Rattle.record.specs.View.{settings-of, who-in, view}
 use Rattle.column.specs.Entry.{Result-says}
 use Rattle.record.specs.declared.Column.{Column}
+use Rattle.record.specs.declared.Holdings.{Holdings}
 use Rattle.record.proofs.Refusal.{line-applies, line-passed, first-of-here, first-of-next, first-of-last, ask-settings}
 use Rattle.level.specs.Level.{height, confident, ascending, dropped, needed, without-ends, left, middle, level-of, correction-of, width-refusal, few-refusal, level-refusal}
 use Rattle.level.specs.Entry.{Level-says}
@@ -60,13 +61,13 @@ pub record Sorted-heights (c : Column) (many : ℕ) (array : List ℤ) : Type 0 
   pub front : In-front many (ascending (confident (view c .found .held))) array
 
 pub sorted-heights :
-    (c : Column) (values confidences : List ℕ) (many : ℕ) (array : List ℤ) → Result-says c 0 values confidences → c .who .w ≡ 4 →
-    Sorted-in (c .who .n) values confidences many array → Sorted-heights c many array
+    (c : Column) (h : Holdings) (many : ℕ) (array : List ℤ) → Result-says c h → h .answer ≡ 0 → c .who .w ≡ 4 →
+    Sorted-in (c .who .n) (h .values) (h .confidences) many array → Sorted-heights c many array
 unfolding settings-of
-sorted-heights c values confidences many array says width sorted =
-    let e : held-in (settings (c .who .n) (c .who .t) 4) values confidences ≡ view c .found .held =
-    ap (λ (w : ℕ). held-in (settings (c .who .n) (c .who .t) w) values confidences) (sym width) ∙ says .done refl .reads in
-    record { asked = sym (says .answered); width = width; few = sorted .few; front = rw e at (sorted .heights (c .who .t)) }
+sorted-heights c h many array says done width sorted =
+    let e : held-in (settings (c .who .n) (c .who .t) 4) (h .values) (h .confidences) ≡ view c .found .held =
+    ap (λ (w : ℕ). held-in (settings (c .who .n) (c .who .t) w) (h .values) (h .confidences)) (sym width) ∙ says .done done .reads in
+    record { asked = sym (says .answered) ∙ done; width = width; few = sorted .few; front = rw e at (sorted .heights (c .who .t)) }
 
 module _ (c : Column) (many : ℕ) (array : List ℤ) (s : Sorted-heights c many array) where
   count : length (confident (view c .found .held)) ≡ many

@@ -5,7 +5,6 @@ use code::sizes::VECTOR_ROOM;
 use level::answer::Level;
 use libc::STDIN_FILENO;
 use record::Column;
-use record::Findings;
 use record::Identity;
 use vector_file::Tally;
 
@@ -26,12 +25,9 @@ fn stored_column(n: u32, t: u32, w: u32, number: u32, round: u32) -> Column {
         run: 0,
         own,
     };
-    let found = Findings {
-        heard: [0u8; VECTOR_ROOM],
-        agreed: [0u8; VECTOR_ROOM],
-        values,
-        confidences,
-    };
+    let mut found = column.found;
+    found.values = values;
+    found.confidences = confidences;
     column.who = who;
     column.found = found;
     column.round = round;

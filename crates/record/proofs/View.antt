@@ -20,7 +20,7 @@ use Rattle.code.proofs.ValidSettings.{sizes}
 use Rattle.grading.specs.Value.{Value}
 use Rattle.grading.specs.Held.{held-in}
 use Rattle.record.specs.Frame.{header-size, longest-frame, operand-size, frame-size, round-in, operand-in}
-use Rattle.record.specs.Record.{who-as, found-as, opened, no-frames, taken-at, is-taken, frames-of, frame-at, In-time, with-operand, with-frame, with-refused, raised, refused-at}
+use Rattle.record.specs.Record.{who-as, found-as, nothing-found, opened, no-frames, taken-at, is-taken, frames-of, frame-at, In-time, with-operand, with-frame, with-refused, raised, refused-at}
 use Rattle.record.specs.Refusal.{take-refusal}
 use Rattle.record.specs.View.{settings-of, who-in, frame-in, frames-in, found-in, view}
 use Rattle.record.specs.Stored.{no-slot, frame-slot, identity, opened-column, slots-with, with-slot, with-count}
@@ -116,12 +116,12 @@ no-slots s m h = frames-none s m most-columns no-slot refl h
 
 -- a record as opening makes it
 pub view-opened : (n t w k run : ℕ) (v : Value) → Opens (settings n t w) k v → view (opened-column (identity n t w k run v)) ≡ opened (settings n t w) k run v
-unfolding view who-in found-in settings-of settings value-size opened-column identity opened padded
+unfolding view who-in found-in settings-of settings value-size opened-column identity opened nothing-found padded
 view-opened n t w k run v o =
     let s = settings n t w in
     rw (no-slots s 1 (sizes s (o .fine) .few-columns), no-slots s 2 (sizes s (o .fine) .few-columns), front-value v (replicate value-room 0) w (o .size)) refl
 
--- V, Y, values and confidences
+-- V, Y, values and confidences, and what rounds two and three told
 module _ (s : Settings) (m : ℕ) (f : Findings) where
   pub found-heard : 2 ≤ m → found-in s m f .heard ≡ values-in s (s .n) (f .heard)
   unfolding found-in found-as
@@ -134,6 +134,14 @@ module _ (s : Settings) (m : ℕ) (f : Findings) where
   pub found-held : 4 ≤ m → found-in s m f .held ≡ held-in s (f .values) (f .confidences)
   unfolding found-in found-as
   found-held h = rw (lt-ltb 3 m h) refl
+
+  pub found-two : 3 ≤ m → found-in s m f .told-two ≡ take (s .n) (f .«told_two»)
+  unfolding found-in found-as
+  found-two h = rw (lt-ltb 2 m h) refl
+
+  pub found-three : 4 ≤ m → found-in s m f .told-three ≡ take (s .n) (f .«told_three»)
+  unfolding found-in found-as
+  found-three h = rw (lt-ltb 3 m h) refl
 
 -- a slot with a frame
 slot-read : (size : ℕ) (bs : List ℕ) → length bs ≡ header-size + size → frame-in size (frame-slot bs) ≡ some (operand-in bs)

@@ -22,15 +22,31 @@ pub record Who : Type 0 where
 unfoldable pub who-as : Settings → (number run : ℕ) → (own : Value) → Who
 who-as s k run v = record { settings = s; number = k; run = run; own = v }
 
--- what a column has found: V from round two on, Y from round three on, values and confidences in round four
+-- what a round of checks told of a sender is how many places its checks changed, or one of two marks, which are no numbers of places:
+-- that its frame was missing
+abbrev pub told-missing : ℕ
+told-missing = 254
+
+-- that its checks gave "none"
+abbrev pub told-none : ℕ
+told-none = 255
+
+-- what a column has found: V from round two on, Y from round three on, values and confidences in round four; and what round two told of
+-- each sender, from round three on, and round three, in round four
 pub record Found : Type 0 where
   pub heard : Vector
   pub agreed : Vector
   pub held : List Held
+  pub told-two : List ℕ
+  pub told-three : List ℕ
 
 -- the same from its parts
-unfoldable pub found-as : (heard agreed : Vector) → List Held → Found
-found-as vs ys hs = record { heard = vs; agreed = ys; held = hs }
+unfoldable pub found-as : (heard agreed : Vector) → List Held → (told-two told-three : List ℕ) → Found
+found-as vs ys hs two three = record { heard = vs; agreed = ys; held = hs; told-two = two; told-three = three }
+
+-- nothing found yet
+unfoldable pub nothing-found : Found
+nothing-found = found-as [] [] [] [] []
 
 -- the record: who the column is; what came in, by slot, as operands: the frames of this round, and those of the round that follows, which
 -- came early; what it has found; its round, 1 to 4, where 4 is finished; the count of refused frames
@@ -48,7 +64,7 @@ no-frames s = replicate (s .n) none
 
 -- a record as opening makes it: round one, the refused count 0
 unfoldable pub opened : Settings → (number run : ℕ) → (own : Value) → Rec
-opened s k run v = record { who = who-as s k run v; frames = no-frames s; early = no-frames s; found = found-as [] [] []; round = 1; refused = 0 }
+opened s k run v = record { who = who-as s k run v; frames = no-frames s; early = no-frames s; found = nothing-found; round = 1; refused = 0 }
 
 -- the frame in a slot, if there is one; slots count from 1
 unfoldable pub taken-at : List (Option (List ℕ)) → (slot : ℕ) → Option (List ℕ)

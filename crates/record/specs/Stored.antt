@@ -16,6 +16,7 @@ use Rattle.record.specs.declared.Identity.{Identity}
 use Rattle.record.specs.declared.Slot.{Slot}
 use Rattle.record.specs.declared.Findings.{Findings}
 use Rattle.record.specs.declared.Column.{Column}
+use Rattle.record.specs.declared.Holdings.{Holdings}
 
 -- an empty slot: every byte is 0
 unfoldable pub no-slot : Slot
@@ -32,7 +33,25 @@ frame-slot bs = record { taken = 1; bytes = padded longest-frame bs }
 -- nothing found: every byte is 0
 unfoldable pub no-findings : Findings
 no-findings =
-    record { heard = replicate vector-room 0; agreed = replicate vector-room 0; values = replicate vector-room 0; confidences = replicate most-columns 0 }
+    record {
+      heard = replicate vector-room 0;
+      agreed = replicate vector-room 0;
+      values = replicate vector-room 0;
+      confidences = replicate most-columns 0;
+      «told_two» = replicate most-columns 0;
+      «told_three» = replicate most-columns 0;
+    }
+
+-- nothing to answer a request for the result with: every byte is 0 but those of the refusal's number
+unfoldable pub no-holdings : (answer : ℕ) → Holdings
+no-holdings a =
+    record {
+      answer = a;
+      values = replicate vector-room 0;
+      confidences = replicate most-columns 0;
+      «told_two» = replicate most-columns 0;
+      «told_three» = replicate most-columns 0;
+    }
 
 -- who a column is: zeros behind its own value
 unfoldable pub identity : (n t w number run : ℕ) → (own : List ℕ) → Identity
@@ -71,7 +90,8 @@ with-count c k = record { who = c .who; slots = c .slots; early = c .early; foun
 unfoldable pub after-refusal : (answer : ℕ) → Column → Column
 after-refusal a c = cond (frame-fault a) (with-count c (raised (c .refused))) c
 
--- what a closing writes of what is found then: V in round one, Y in two, values and confidences in three; every other array is as before
+-- what a closing writes of what is found then: V in round one, Y in two, values and confidences in three, and what rounds two and three
+-- told when they are closed; every other array is as before
 unfoldable pub found-now : (round : ℕ) → (before : Findings) → (now : Found) → Findings
 found-now m f q =
     record {
@@ -79,6 +99,8 @@ found-now m f q =
       agreed = cond (eqb m 2) (padded vector-room (glued (q .agreed))) (f .agreed);
       values = cond (eqb m 3) (padded vector-room (glued (held-values (q .held)))) (f .values);
       confidences = cond (eqb m 3) (padded most-columns (held-confidences (q .held))) (f .confidences);
+      «told_two» = cond (eqb m 2) (padded most-columns (q .told-two)) (f .«told_two»);
+      «told_three» = cond (eqb m 3) (padded most-columns (q .told-three)) (f .«told_three»);
     }
 
 -- a column one round on, with what it has found then: the frames that came early are in its slots, and none has come early yet

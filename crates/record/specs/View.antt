@@ -10,7 +10,7 @@ use Rattle.code.specs.Settings.{Settings, settings, value-size}
 use Rattle.code.specs.Entry.{values-in}
 use Rattle.grading.specs.Held.{held-in}
 use Rattle.record.specs.Frame.{operand-size, operand-in}
-use Rattle.record.specs.Record.{Who, Found, Rec, who-as, found-as}
+use Rattle.record.specs.Record.{Who, Found, Rec, who-as, found-as, nothing-found}
 use Rattle.record.specs.declared.Identity.{Identity}
 use Rattle.record.specs.declared.Slot.{Slot}
 use Rattle.record.specs.declared.Findings.{Findings}
@@ -32,11 +32,12 @@ frame-in size s = cond (eqb (s .taken) 0) none (some (take size (operand-in (s .
 unfoldable pub frames-in : Settings → (round : ℕ) → List Slot → List (Option (List ℕ))
 frames-in s m slots = map (frame-in (operand-size s m)) (take (s .n) slots)
 
--- what it has found: V is read from round two on, Y from three on, values and confidences in round four
+-- what it has found: V is read from round two on, Y and what round two told from three on, all else in round four
 unfoldable pub found-in : Settings → (round : ℕ) → Findings → Found
 found-in s m f =
     found-as (cond (ltb 1 m) (values-in s (s .n) (f .heard)) []) (cond (ltb 2 m) (values-in s (s .n) (f .agreed)) [])
-    (cond (ltb 3 m) (held-in s (f .values) (f .confidences)) [])
+    (cond (ltb 3 m) (held-in s (f .values) (f .confidences)) []) (cond (ltb 2 m) (take (s .n) (f .«told_two»)) [])
+    (cond (ltb 3 m) (take (s .n) (f .«told_three»)) [])
 
 -- the record
 unfoldable pub view : Column → Rec
@@ -54,4 +55,4 @@ view c =
 -- a record by what came in alone: who the column is, its round and its slots
 unfoldable pub inbox : Identity → (round : ℕ) → List Slot → Rec
 inbox i m slots =
-    record { who = who-in i; frames = frames-in (settings-of i) m slots; early = []; found = found-as [] [] []; round = m; refused = 0 }
+    record { who = who-in i; frames = frames-in (settings-of i) m slots; early = []; found = nothing-found; round = m; refused = 0 }

@@ -36,14 +36,21 @@ pub struct Slot {
     pub bytes: [u8; LONGEST_FRAME],
 }
 
+// What a round of checks told of a sender, where it is no number of places: its frame was missing, or its checks gave "none".
+pub const TOLD_MISSING: u8 = 254;
+
+pub const TOLD_NONE: u8 = 255;
+
 // What a column has found: V after round one, Y after two, values and confidences after three. Values stand one after the other, w
-// bytes each, from their array's front on.
+// bytes each, from their array's front on. And what rounds two and three told of each sender, when they are closed.
 #[repr(C)]
 pub struct Findings {
     pub heard: [u8; VECTOR_ROOM],
     pub agreed: [u8; VECTOR_ROOM],
     pub values: [u8; VECTOR_ROOM],
     pub confidences: [u8; MOST_COLUMNS],
+    pub told_two: [u8; MOST_COLUMNS],
+    pub told_three: [u8; MOST_COLUMNS],
 }
 
 // A record: who the column is, what came in by slot, for its round and early for the one that follows, what it has found, its round, 1
@@ -65,12 +72,15 @@ pub struct Outcome {
     pub column: Column,
 }
 
-// What asking for the result answers: 0 or the number of the refusal, and the values and confidences.
+// What asking for the result answers: 0 or the number of the refusal, the values and confidences, and what rounds two and three told of
+// each sender.
 #[repr(C)]
 pub struct Holdings {
     pub answer: u32,
     pub values: [u8; VECTOR_ROOM],
     pub confidences: [u8; MOST_COLUMNS],
+    pub told_two: [u8; MOST_COLUMNS],
+    pub told_three: [u8; MOST_COLUMNS],
 }
 
 // The record whose bytes are all 0.
@@ -90,6 +100,8 @@ pub fn empty() -> Column
         agreed: [0u8; VECTOR_ROOM],
         values: [0u8; VECTOR_ROOM],
         confidences: [0u8; MOST_COLUMNS],
+        told_two: [0u8; MOST_COLUMNS],
+        told_three: [0u8; MOST_COLUMNS],
     };
     let slots = slots::no_slots();
     Column {

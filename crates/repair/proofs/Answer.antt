@@ -1,13 +1,15 @@
 -- From what the decoder of all planes finds to the answer: where a plane does not decode, it has no codeword near; where all do,
--- the vector of their errors is the zeros repaired; and where the checks are the same, the zeros need no repair. Assumes nothing.
+-- the vector of their errors is the zeros repaired, and a row with an error is a place changed; and where the checks are the same, the
+-- zeros need no repair. Assumes nothing.
 use mathlib.Core.Path.{_≡_, refl, sym, _∙_, ap, ap₂}
 use mathlib.Core.Bool.{Bool, true, false}
 use mathlib.Core.List.{List}
 use mathlib.Core.Logic.{inl, inr}
 use Prim.Native.Nat.{ℕ, zero, suc, _+_, _*_, _-_, _≤_, _<_}
 use native.Mathlib.Omega.{arith}
-use lib.ListN.{length, getD, drop, replicate, length-replicate}
-use lib.Seq.{take-all}
+use lib.Dec.{eqb}
+use lib.ListN.{length, getD, drop, replicate, length-replicate, length-drop, getD-replicate}
+use lib.Seq.{take-all, getD-drop}
 use Rattle.arrays.specs.Array.{in-front, all-zero}
 use Rattle.arrays.proofs.Zeros.{some-not-zero}
 use Rattle.lanes.specs.Lanes.{row-width, in-row, lane}
@@ -15,25 +17,32 @@ use Rattle.code.specs.Size.{place-rows}
 use Rattle.code.specs.Settings.{Settings, settings, settings-refusal, check-count, value-size}
 use Rattle.code.specs.Polynomial.{root}
 use Rattle.code.specs.Plane.{is-codeword}
-use Rattle.code.specs.Vector.{plane, cut, glued}
+use Rattle.field.specs.Field.{plus}
+use Rattle.field.proofs.Xor.{zero-plus}
+use Rattle.field.proofs.Times.{times-lt}
+use Rattle.code.specs.Vector.{plane, is-vector, differ-values, cut, glued}
+use Rattle.code.specs.Repair.{Repaired, changed-places}
 use Rattle.code.specs.Entry.{values-in}
-use Rattle.arrays.proofs.Bytes.{Bytes, bytes-zeros}
+use Rattle.arrays.proofs.Bytes.{Bytes, byte-at, bytes-zeros}
 use Rattle.code.proofs.Vectors.Cut.{cut-length, cut-values, glued-cut}
-use Rattle.lanes.proofs.Lane.{lane-length, lane-zeros}
+use Rattle.lanes.proofs.Lane.{lane-length, lane-at, lane-zeros}
 use Rattle.code.proofs.Codewords.Near.{differ-self}
-use Rattle.code.proofs.Vectors.Planes.{Values, plane-length, plane-bytes, vector-back}
+use Rattle.code.proofs.Vectors.Planes.{Values, plane-bytes, vector-of, vector-back, checks-back, differ-values-self}
 use Rattle.code.proofs.ValidSettings.{sizes}
 use Rattle.code.proofs.Codewords.Word.{word-back}
-use Rattle.locator.specs.Errors.{mended}
+use Rattle.locator.specs.Errors.{error-byte, mended, Error-bytes}
 use Rattle.repair.specs.Difference.{plus-values, zeros}
 use Rattle.repair.specs.Entry.{Done-by, none-found}
 use Rattle.sums.specs.Rows.{Values-added}
+use Rattle.repair.specs.Steps.Changed.{wrong-rows}
 use Rattle.repair.specs.Steps.Columns.{column-errors}
-use Rattle.repair.specs.Steps.Planes.{Decoded-as}
+use Rattle.repair.specs.Steps.Planes.{Decoded, Decoded-as}
 use Rattle.sums.proofs.Sums.CheckRows.{values-lane}
 use Rattle.sums.proofs.Sums.CheckSums.{syndrome-zeros, summed-zeros}
 use Rattle.locator.proofs.Decoder.{mended-zeros}
+use Rattle.locator.proofs.Errors.Mended.{mended-length, mended-bytes, mended-at, error-there}
 use Rattle.repair.proofs.ColumnErrors.{column-errors-vector, column-errors-plane}
+use Rattle.repair.proofs.WrongRows.{wrong-rows-plus, rows-changed, by-planes, by-planes-length, by-planes-values, by-planes-plane}
 use Rattle.repair.proofs.Difference.Values.{zero-values, plus-zeros, plane-plus, plane-zeros, plus-values-length, plus-values-values}
 
 glued-whole : (n w : ℕ) (vector : List ℕ) → length vector ≡ n * w → glued (cut n w vector) ≡ vector
@@ -70,10 +79,6 @@ module _ (n t w : ℕ) (vector own checks rows : List ℕ) (allowed : settings-r
   theirs-values : Values w theirs
   theirs-values = cut-values (2 * t) w checks (omega arith) check-bytes
 
-  apart-long : (p : ℕ) → length (plane p apart) ≡ 2 * t
-  apart-long p =
-      plane-length p apart ∙ plus-values-length ours theirs (cut-length (2 * t) w own ∙ sym (cut-length (2 * t) w checks)) ∙ cut-length (2 * t) w own
-
   apart-bytes : (p : ℕ) → Bytes (plane p apart)
   apart-bytes p = plane-bytes p w apart (plus-values-values w ours theirs ours-values theirs-values)
 
@@ -81,68 +86,144 @@ module _ (n t w : ℕ) (vector own checks rows : List ℕ) (allowed : settings-r
   apart-lane : (p : ℕ) → p < w → lane p (2 * t) rows ≡ plane p apart
   apart-lane p h = values-lane (2 * t) w own checks rows difference p h ∙ sym (plane-plus p w ours theirs ours-values theirs-values)
 
+  apart-values : Values w apart
+  apart-values = plus-values-values w ours theirs ours-values theirs-values
+
+  apart-many : length apart ≡ 2 * t
+  apart-many = plus-values-length ours theirs (cut-length (2 * t) w own ∙ sym (cut-length (2 * t) w checks)) ∙ cut-length (2 * t) w own
+
   -- some plane has no codeword near
   pub answer-none :
-      (found : Bool) (weighted out : List ℕ) → found ≡ false → Decoded-as found w s rows weighted → Done-by s (values-in s n vector) ours theirs none-found out out
+      (found : Bool) (weighted out : List ℕ) → found ≡ false → Decoded-as found w s rows weighted → Done-by s (values-in s n vector) ours theirs none-found 0 out out
   unfolding settings check-count value-size Decoded-as Done-by
   answer-none true weighted out e d = absurd (let z : _≡_ {A = ℕ} 0 1 = cc in omega arith)
   answer-none false weighted out e (p, h, none) =
       inr (
+        refl,
         refl,
         record { at-plane = p; inside = h; none-near = λ us ds near. none us ds (rw (plane-zeros s p, sym (apart-lane p h)) at near) },
         refl,
       )
 
   -- every plane has one
-  pub answer-found :
-      (found : Bool) (weighted out now : List ℕ) → w ≤ row-width → found ≡ true → Decoded-as found w s rows weighted →
-      now ≡ in-front (glued (plus-values (cut n w vector) (column-errors n 0 w weighted))) out → Done-by s (values-in s n vector) ours theirs 0 out now
-  unfolding settings check-count value-size Decoded-as Done-by values-in
-  answer-found false weighted out now small e d back = absurd (let z : _≡_ {A = ℕ} 0 1 = cc in omega arith)
-  answer-found true weighted out now small e d back =
-      inl (
-        refl,
-        (
-          column-errors n 0 w weighted,
-          record {
-            vector = column-errors-vector s weighted small (omega (arith, d .long, sizes s allowed .few-columns));
-            planes = λ p h. (
-              mended s n (lane p (2 * t) rows) (drop n (lane p (n + 2 * t) weighted)),
+  module _ (weighted : List ℕ) (small : w ≤ row-width) (d : Decoded w s rows weighted) where
+    abbrev errors : List (List ℕ)
+    errors = column-errors n 0 w weighted
+
+    -- the checks of each plane's codeword
+    abbrev mended-checks : ℕ → List ℕ
+    mended-checks p = mended s n (lane p (2 * t) rows) (drop n (lane p (n + 2 * t) weighted))
+
+    abbrev found-checks : List (List ℕ)
+    found-checks = by-planes (2 * t) w mended-checks
+
+    room : row-width * (n + 2 * t) ≤ length weighted
+    unfolding settings
+    room = let z = sizes s allowed in omega (arith, d .long, z .few-columns, z .few-bad)
+
+    checks-plane : (p : ℕ) → p < w → plane p found-checks ≡ mended-checks p
+    checks-plane p h = by-planes-plane (2 * t) w mended-checks p h (mended-length s n _ _ ∙ lane-length p (2 * t) rows)
+
+    checks-values : Values w found-checks
+    checks-values = by-planes-values (2 * t) w mended-checks (λ p h. mended-bytes s n _ _ (rw (apart-lane p h) (apart-bytes p)))
+
+    errors-fine : is-vector s errors ≡ true
+    unfolding settings value-size
+    errors-fine = column-errors-vector s weighted small (omega (arith, room))
+
+    errors-at : (p : ℕ) → p < w → Error-bytes s (lane p (n + 2 * t) weighted) (plane p errors)
+    unfolding settings value-size
+    errors-at p h = column-errors-plane s p (n + 2 * t) weighted h (omega arith) (d .bytes)
+
+    repaired : Repaired s (zeros s) apart errors found-checks
+    unfolding settings check-count value-size
+    repaired =
+        record {
+          vector = errors-fine;
+          checks = checks-back s found-checks (by-planes-length (2 * t) w mended-checks) checks-values;
+          planes = λ p h.
               rw (
                 plane-zeros s p,
                 sym (apart-lane p h),
-                mended-zeros s (lane p (n + 2 * t) weighted) _ (omega (arith, lane-length p (n + 2 * t) weighted))
-                    (column-errors-plane s p (n + 2 * t) weighted h (omega arith) (d .bytes)),
+                checks-plane p h,
+                mended-zeros s (lane p (n + 2 * t) weighted) _ (omega (arith, lane-length p (n + 2 * t) weighted)) (errors-at p h),
               )
-                  (d .each p h .near),
-            );
-          },
-          back,
-        ),
-      )
+              (d .each p h .near);
+        }
+
+    -- a row with an error is a place changed: the columns' rows, and behind them the checks'
+    columns-changed : differ-values (zeros s) errors ≡ wrong-rows n weighted
+    unfolding settings value-size zeros error-byte
+    columns-changed =
+        let fine = vector-of s errors errors-fine in
+        rows-changed n w (zeros s) errors weighted (length-replicate n _) (fine .many) (zero-values n w) (fine .values) small (omega (arith, room)) at
+        (λ j p h l k. d .others j p l k)
+      where
+        at : (j p : ℕ) → j < n → p < w → eqb (getD (plane p (zeros s)) j 0) (getD (plane p errors) j 0) ≡ eqb (getD weighted (in-row j p) 0) 0
+        at j p h l =
+            let byte = errors-at p l .each j h ∙ ap (error-byte s j) (lane-at p (n + 2 * t) weighted j (omega arith)) in
+            ap₂ eqb (ap (λ (bs : List ℕ). getD bs j 0) (plane-zeros s p) ∙ getD-replicate n j 0 0 h) (byte ∙ sym (zero-plus _ (times-lt _ _)))
+            ∙ error-there s j 0 (getD weighted (in-row j p) 0) (omega arith) (d .bytes _)
+
+    checks-changed : differ-values apart found-checks ≡ wrong-rows (2 * t) (drop (row-width * n) weighted)
+    unfolding settings
+    checks-changed =
+        rows-changed (2 * t) w apart found-checks (drop (row-width * n) weighted) apart-many (by-planes-length (2 * t) w mended-checks) apart-values checks-values small
+        (omega (arith, room, length-drop (row-width * n) weighted)) at
+        (λ j p h l k. behind j p ∙ d .others (n + j) p l k)
+      where
+        behind : (j p : ℕ) → getD (drop (row-width * n) weighted) (in-row j p) 0 ≡ getD weighted (in-row (n + j) p) 0
+        behind j p =
+            getD-drop (row-width * n) weighted (in-row j p) 0
+            ∙ ap (λ (i : ℕ). getD weighted i 0) (let e : row-width * n + in-row j p ≡ in-row (n + j) p = omega arith in e)
+
+        at :
+            (j p : ℕ) → j < 2 * t → p < w →
+            eqb (getD (plane p apart) j 0) (getD (plane p found-checks) j 0) ≡ eqb (getD (drop (row-width * n) weighted) (in-row j p) 0) 0
+        at j p h l =
+            let lanes = lane p (n + 2 * t) weighted in
+            let long : length (lane p (2 * t) rows) ≡ length (drop n lanes) = omega (arith, lane-length p (2 * t) rows, length-drop n lanes, lane-length p (n + 2 * t) weighted) in
+            ap₂ (λ (bs us : List ℕ). eqb (getD bs j 0) (getD us j 0)) (sym (apart-lane p l)) (checks-plane p l)
+            ∙ ap (eqb (getD (lane p (2 * t) rows) j 0))
+            (mended-at s n (lane p (2 * t) rows) (drop n lanes) j (n + j) refl (omega (arith, lane-length p (2 * t) rows)) long
+            ∙ ap (λ (y : ℕ). plus (getD (lane p (2 * t) rows) j 0) (error-byte s (n + j) y))
+            (getD-drop n lanes j 0 ∙ lane-at p (n + 2 * t) weighted (n + j) (omega arith) ∙ sym (behind j p)))
+            ∙ error-there s (n + j) _ _ (byte-at (lane p (2 * t) rows) j (rw (apart-lane p l) (apart-bytes p))) (rw (behind j p) (d .bytes _))
+
+    changed-rows : wrong-rows (n + 2 * t) weighted ≡ changed-places (zeros s) apart errors found-checks
+    unfolding changed-places
+    changed-rows = wrong-rows-plus n (2 * t) weighted ∙ sym (ap₂ _+_ columns-changed checks-changed)
+
+  pub answer-found :
+      (found : Bool) (changed : ℕ) (weighted out now : List ℕ) → w ≤ row-width → found ≡ true → Decoded-as found w s rows weighted →
+      changed ≡ wrong-rows (n + 2 * t) weighted → now ≡ in-front (glued (plus-values (cut n w vector) (column-errors n 0 w weighted))) out →
+      Done-by s (values-in s n vector) ours theirs 0 changed out now
+  unfolding settings value-size Decoded-as Done-by values-in
+  answer-found false changed weighted out now small e d count back = absurd (let z : _≡_ {A = ℕ} 0 1 = cc in omega arith)
+  answer-found true changed weighted out now small e d count back =
+      inl (refl, (errors weighted small d, found-checks weighted small d, repaired weighted small d, count ∙ changed-rows weighted small d, back))
 
   -- the difference is zero: the zeros are a codeword with no checks
   pub answer-same :
       (out now : List ℕ) → w ≤ row-width → ((i : ℕ) → getD rows i 0 ≡ 0) → length vector ≡ n * w → Bytes vector → now ≡ in-front vector out →
-      Done-by s (values-in s n vector) ours theirs 0 out now
-  unfolding settings check-count value-size Done-by values-in zeros
+      Done-by s (values-in s n vector) ours theirs 0 0 out now
+  unfolding settings check-count value-size Done-by values-in zeros changed-places
   answer-same out now small z l b back =
       inl (
         refl,
         (
           zeros s,
+          apart,
           record {
             vector = vector-back s (zeros s) (record { many = length-replicate n (replicate w 0); values = zero-values n w });
-            planes = λ p h. (
-              replicate (2 * t) 0,
-              record {
-                codeword = ap₂ (is-codeword s) (plane-zeros s p) refl ∙ zero-codeword;
-                within =
-                    rw (plane-zeros s p, sym (apart-lane p h) ∙ lane-zeros p (2 * t) rows (λ j k. z (in-row j p)))
-                    (omega (arith, differ-self (replicate n 0), differ-self (replicate (2 * t) 0)));
-              },
-            );
+            checks = checks-back s apart apart-many apart-values;
+            planes = λ p h.
+                record {
+                  codeword = ap₂ (is-codeword s) (plane-zeros s p) (sym (apart-lane p h) ∙ lane-zeros p (2 * t) rows (λ j k. z (in-row j p))) ∙ zero-codeword;
+                  within = omega (arith, differ-self (plane p (zeros s)), differ-self (plane p apart));
+                };
           },
+          omega (arith, differ-values-self (zeros s), differ-values-self apart),
           back ∙ ap (λ (bs : List ℕ). in-front bs out) (sym (glued-whole n w vector l) ∙ ap glued (sym (plus-zeros n w vector l b))),
         ),
       )

@@ -10,7 +10,7 @@ use native.Mathlib.Decide.{ℕ-discrete}
 use lib.Dec.{eqb, ltb}
 use lib.ListN.{length}
 use borrow.Author.Tests.{eq-eqb, ne-eqb, le-ltb, eqb-true, ltb-false}
-use Rattle.code.specs.Settings.{settings, settings-refusal, check-count, value-size}
+use Rattle.code.specs.Settings.{Settings, settings, settings-refusal, check-count, value-size}
 use Rattle.code.specs.Entry.{values-in}
 use Rattle.repair.specs.Entry.{repair-refusal, Done, Repair-as, Repair-says, repair-by-refusal, Done-by, Repair-by-as, Repair-by-says}
 
@@ -28,6 +28,17 @@ none-refuses true true false e = (refl, refl, refl)
 none-refuses true true true e = absurd (omega arith)
 none-refuses true false d e = absurd (omega arith)
 none-refuses false b d e = absurd (omega arith)
+
+-- not refused by the lines of both calls
+pub by-passed : (s : Settings) (v d c k : ℕ) → repair-by-refusal s v d c k ≡ 0 → repair-refusal s v c k ≡ 0
+unfolding repair-by-refusal
+by-passed s v d c k e = go (eqb (repair-refusal s v c k) 0) refl e
+  where
+    go :
+        (q : Bool) → eqb (repair-refusal s v c k) 0 ≡ q →
+        cond (not q) (repair-refusal s v c k) (cond (eqb d (check-count s * value-size s)) 0 18) ≡ 0 → repair-refusal s v c k ≡ 0
+    go true f z = eqb-true _ _ f
+    go false f z = z
 
 module _ (n t w : ℕ) where
   -- the number
@@ -72,34 +83,34 @@ module _ (n t w : ℕ) where
 
   -- what the calls say
   module _ (vector checks out : List ℕ) where
-    refused-as : (k : ℕ) → (k ≡ 0 → ⊥) → Repair-as k (settings n t w) vector checks k out out
+    refused-as : (k : ℕ) → (k ≡ 0 → ⊥) → Repair-as k (settings n t w) vector checks k 0 out out
     unfolding Repair-as
     refused-as zero h = absurd (h refl)
-    refused-as (suc k) h = (refl, refl)
+    refused-as (suc k) h = (refl, refl, refl)
 
     pub repair-refused :
-        (r : ℕ) → r ≡ repair-refusal (settings n t w) (length vector) (length checks) (length out) → (r ≡ 0 → ⊥) → Repair-says n t w vector checks r out out
+        (r : ℕ) → r ≡ repair-refusal (settings n t w) (length vector) (length checks) (length out) → (r ≡ 0 → ⊥) → Repair-says n t w vector checks r 0 out out
     unfolding Repair-says
-    repair-refused r e h = subst (λ (j : ℕ). Repair-as j (settings n t w) vector checks r out out) e (refused-as r h)
+    repair-refused r e h = subst (λ (j : ℕ). Repair-as j (settings n t w) vector checks r 0 out out) e (refused-as r h)
 
     pub repair-done :
-        (r : ℕ) (now : List ℕ) → repair-refusal (settings n t w) (length vector) (length checks) (length out) ≡ 0 →
-        Done (settings n t w) (values-in (settings n t w) n vector) (values-in (settings n t w) (2 * t) checks) r out now →
-        Repair-says n t w vector checks r out now
+        (r m : ℕ) (now : List ℕ) → repair-refusal (settings n t w) (length vector) (length checks) (length out) ≡ 0 →
+        Done (settings n t w) (values-in (settings n t w) n vector) (values-in (settings n t w) (2 * t) checks) r m out now →
+        Repair-says n t w vector checks r m out now
     unfolding Repair-says Repair-as settings check-count
-    repair-done r now e d = subst (λ (j : ℕ). Repair-as j (settings n t w) vector checks r out now) (sym e) d
+    repair-done r m now e d = subst (λ (j : ℕ). Repair-as j (settings n t w) vector checks r m out now) (sym e) d
 
     module _ (own : List ℕ) where
-      by-as : (k : ℕ) → (k ≡ 0 → ⊥) → Repair-by-as k (settings n t w) vector own checks k out out
+      by-as : (k : ℕ) → (k ≡ 0 → ⊥) → Repair-by-as k (settings n t w) vector own checks k 0 out out
       unfolding Repair-by-as
       by-as zero h = absurd (h refl)
-      by-as (suc k) h = (refl, refl)
+      by-as (suc k) h = (refl, refl, refl)
 
       pub repair-by-refused :
           (r : ℕ) → r ≡ repair-refusal (settings n t w) (length vector) (length checks) (length out) → (r ≡ 0 → ⊥) →
-          Repair-by-says n t w vector own checks r out out
+          Repair-by-says n t w vector own checks r 0 out out
       unfolding Repair-by-says repair-by-refusal
-      repair-by-refused r e h = subst (λ (j : ℕ). Repair-by-as j (settings n t w) vector own checks r out out) (sym same) (by-as r h)
+      repair-by-refused r e h = subst (λ (j : ℕ). Repair-by-as j (settings n t w) vector own checks r 0 out out) (sym same) (by-as r h)
         where
           same : repair-by-refusal (settings n t w) (length vector) (length own) (length checks) (length out) ≡ r
           same = rw (← e, ne-eqb r 0 h)
@@ -112,19 +123,19 @@ module _ (n t w : ℕ) where
 
       pub repair-by-own :
           repair-refusal (settings n t w) (length vector) (length checks) (length out) ≡ 0 → (length own ≡ 2 * t * w → ⊥) →
-          Repair-by-says n t w vector own checks 18 out out
+          Repair-by-says n t w vector own checks 18 0 out out
       unfolding Repair-by-says
-      repair-by-own e h = subst (λ (j : ℕ). Repair-by-as j (settings n t w) vector own checks 18 out out) (sym (own-number e ∙ refuses)) (by-as 18 (λ z. omega arith))
+      repair-by-own e h = subst (λ (j : ℕ). Repair-by-as j (settings n t w) vector own checks 18 0 out out) (sym (own-number e ∙ refuses)) (by-as 18 (λ z. omega arith))
         where
           refuses : _≡_ {A = ℕ} (cond (eqb (length own) (2 * t * w)) 0 18) 18
           refuses = rw (ne-eqb (length own) (2 * t * w) h)
 
       pub repair-by-done :
-          (r : ℕ) (now : List ℕ) → repair-refusal (settings n t w) (length vector) (length checks) (length out) ≡ 0 → length own ≡ 2 * t * w →
-          Done-by (settings n t w) (values-in (settings n t w) n vector) (values-in (settings n t w) (2 * t) own) (values-in (settings n t w) (2 * t) checks) r out now →
-          Repair-by-says n t w vector own checks r out now
+          (r m : ℕ) (now : List ℕ) → repair-refusal (settings n t w) (length vector) (length checks) (length out) ≡ 0 → length own ≡ 2 * t * w →
+          Done-by (settings n t w) (values-in (settings n t w) n vector) (values-in (settings n t w) (2 * t) own) (values-in (settings n t w) (2 * t) checks) r m out now →
+          Repair-by-says n t w vector own checks r m out now
       unfolding Repair-by-says Repair-by-as settings check-count
-      repair-by-done r now e h d = subst (λ (j : ℕ). Repair-by-as j (settings n t w) vector own checks r out now) (sym (own-number e ∙ passes)) d
+      repair-by-done r m now e h d = subst (λ (j : ℕ). Repair-by-as j (settings n t w) vector own checks r m out now) (sym (own-number e ∙ passes)) d
         where
           passes : _≡_ {A = ℕ} (cond (eqb (length own) (2 * t * w)) 0 18) 0
           passes = rw (eq-eqb (length own) (2 * t * w) h)

@@ -9,7 +9,7 @@ use lib.ListN.{length}
 use Rattle.arrays.specs.Array.{in-front}
 use Rattle.code.specs.Settings.{Settings, settings, settings-refusal, check-count, value-size}
 use Rattle.code.specs.Vector.{is-vector, are-checks, has-checks, glued}
-use Rattle.code.specs.Repair.{Repaired, No-repair}
+use Rattle.code.specs.Repair.{Repaired, changed-places, No-repair}
 use Rattle.code.specs.Entry.{values-in}
 use Rattle.repair.specs.Difference.{plus-values, zeros}
 
@@ -23,44 +23,57 @@ repair-refusal s v c k =
     cond (not (eqb (settings-refusal s) 0)) (settings-refusal s)
     (cond (not (eqb v (s .n * value-size s)) || (not (eqb c (check-count s * value-size s)) || ltb k (s .n * value-size s))) 18 0)
 
--- the repaired vector in front of the output, or none and the output as it was
-unfoldable pub Done : Settings → (vs cs : List (List ℕ)) → (answer : ℕ) → (out out-now : List ℕ) → Type 0
-Done s vs cs r o z =
-    ((r ≡ 0) × ((us : List (List ℕ)) × Repaired s vs cs us × (z ≡ in-front (glued us) o))) ⊎ ((r ≡ none-found) × No-repair s vs cs × (z ≡ o))
+-- the repaired vector in front of the output and how many places were changed, or none, no place and the output as it was
+unfoldable pub Done : Settings → (vs cs : List (List ℕ)) → (answer changed : ℕ) → (out out-now : List ℕ) → Type 0
+Done s vs cs r m o z =
+    ((r ≡ 0)
+    × ((us : List (List ℕ)) × (ds : List (List ℕ)) × Repaired s vs cs us ds × (m ≡ changed-places vs cs us ds) × (z ≡ in-front (glued us) o)))
+    ⊎ ((r ≡ none-found) × (m ≡ 0) × No-repair s vs cs × (z ≡ o))
 
-unfoldable pub Repair-as : (number : ℕ) → Settings → (vector checks : List ℕ) → (answer : ℕ) → (out out-now : List ℕ) → Type 0
-Repair-as zero s vs cs r o z = Done s (values-in s (s .n) vs) (values-in s (check-count s) cs) r o z
-Repair-as (suc n) s vs cs r o z = (r ≡ suc n) × (z ≡ o)
+unfoldable pub Repair-as : (number : ℕ) → Settings → (vector checks : List ℕ) → (answer changed : ℕ) → (out out-now : List ℕ) → Type 0
+Repair-as zero s vs cs r m o z = Done s (values-in s (s .n) vs) (values-in s (check-count s) cs) r m o z
+Repair-as (suc n) s vs cs r m o z = (r ≡ suc n) × (m ≡ 0) × (z ≡ o)
 
 -- the contract of `repair`
-unfoldable pub Repair-says : (n t w : ℕ) → (vector checks : List ℕ) → (answer : ℕ) → (out out-now : List ℕ) → Type 0
-Repair-says n t w vs cs r o z =
-    Repair-as (repair-refusal (settings n t w) (length vs) (length cs) (length o)) (settings n t w) vs cs r o z
+unfoldable pub Repair-says : (n t w : ℕ) → (vector checks : List ℕ) → (answer changed : ℕ) → (out out-now : List ℕ) → Type 0
+Repair-says n t w vs cs r m o z =
+    Repair-as (repair-refusal (settings n t w) (length vs) (length cs) (length o)) (settings n t w) vs cs r m o z
 
 -- repair by the difference of two lists of check values: the vector of zeros is repaired by the difference, and the vector lent
--- changed by what it becomes
-unfoldable pub Done-by : Settings → (vs own cs : List (List ℕ)) → (answer : ℕ) → (out out-now : List ℕ) → Type 0
-Done-by s vs own cs r o z =
-    ((r ≡ 0) × ((es : List (List ℕ)) × Repaired s (zeros s) (plus-values own cs) es × (z ≡ in-front (glued (plus-values vs es)) o)))
-    ⊎ ((r ≡ none-found) × No-repair s (zeros s) (plus-values own cs) × (z ≡ o))
+-- changed by what it becomes; the places counted are those of that repair
+unfoldable pub Done-by : Settings → (vs own cs : List (List ℕ)) → (answer changed : ℕ) → (out out-now : List ℕ) → Type 0
+Done-by s vs own cs r m o z =
+    ((r ≡ 0)
+    × ((es : List (List ℕ)) × (ds : List (List ℕ)) × Repaired s (zeros s) (plus-values own cs) es ds
+    × (m ≡ changed-places (zeros s) (plus-values own cs) es ds) × (z ≡ in-front (glued (plus-values vs es)) o)))
+    ⊎ ((r ≡ none-found) × (m ≡ 0) × No-repair s (zeros s) (plus-values own cs) × (z ≡ o))
 
 -- as for `repair`, and 18 also where the own checks are not 2t values
 unfoldable pub repair-by-refusal : Settings → (vector own checks room : ℕ) → ℕ
 repair-by-refusal s v d c k =
     cond (not (eqb (repair-refusal s v c k) 0)) (repair-refusal s v c k) (cond (eqb d (check-count s * value-size s)) 0 18)
 
-unfoldable pub Repair-by-as : (number : ℕ) → Settings → (vector own checks : List ℕ) → (answer : ℕ) → (out out-now : List ℕ) → Type 0
-Repair-by-as zero s vs own cs r o z =
-    Done-by s (values-in s (s .n) vs) (values-in s (check-count s) own) (values-in s (check-count s) cs) r o z
-Repair-by-as (suc n) s vs own cs r o z = (r ≡ suc n) × (z ≡ o)
+unfoldable pub Repair-by-as : (number : ℕ) → Settings → (vector own checks : List ℕ) → (answer changed : ℕ) → (out out-now : List ℕ) → Type 0
+Repair-by-as zero s vs own cs r m o z =
+    Done-by s (values-in s (s .n) vs) (values-in s (check-count s) own) (values-in s (check-count s) cs) r m o z
+Repair-by-as (suc n) s vs own cs r m o z = (r ≡ suc n) × (m ≡ 0) × (z ≡ o)
 
 -- the contract of `repair_by`, whatever the own checks are
-unfoldable pub Repair-by-says : (n t w : ℕ) → (vector own checks : List ℕ) → (answer : ℕ) → (out out-now : List ℕ) → Type 0
-Repair-by-says n t w vs own cs r o z =
-    Repair-by-as (repair-by-refusal (settings n t w) (length vs) (length own) (length cs) (length o)) (settings n t w) vs own cs r o z
+unfoldable pub Repair-by-says : (n t w : ℕ) → (vector own checks : List ℕ) → (answer changed : ℕ) → (out out-now : List ℕ) → Type 0
+Repair-by-says n t w vs own cs r m o z =
+    Repair-by-as (repair-by-refusal (settings n t w) (length vs) (length own) (length cs) (length o)) (settings n t w) vs own cs r m o z
 
 -- where the own checks are the vector's, both entries promise the same
 unfoldable pub By-own-checks : Type 0
 By-own-checks =
-    (s : Settings) (vs own cs : List (List ℕ)) (r : ℕ) (o z : List ℕ) → is-vector s vs ≡ true → has-checks s vs own ≡ true → are-checks s cs ≡ true →
-    Done-by s vs own cs r o z → Done s vs cs r o z
+    (s : Settings) (vs own cs : List (List ℕ)) (r m : ℕ) (o z : List ℕ) → is-vector s vs ≡ true → has-checks s vs own ≡ true → are-checks s cs ≡ true →
+    Done-by s vs own cs r m o z → Done s vs cs r m o z
+
+-- each call has one outcome: two that keep its promise are the same, in the answer, in the count and in every lent byte
+pub record One-answer : Type 0 where
+  pub repairing :
+      (n t w : ℕ) (vector checks : List ℕ) (a b m k : ℕ) (out x y : List ℕ) → Repair-says n t w vector checks a m out x →
+      Repair-says n t w vector checks b k out y → (a ≡ b) × (m ≡ k) × (x ≡ y)
+  pub repairing-by :
+      (n t w : ℕ) (vector own checks : List ℕ) (a b m k : ℕ) (out x y : List ℕ) → Repair-by-says n t w vector own checks a m out x →
+      Repair-by-says n t w vector own checks b k out y → (a ≡ b) × (m ≡ k) × (x ≡ y)

@@ -1,3 +1,4 @@
 -- What the steps of the program compute: a reader of the promises needs none of it.
+pub mod Changed
 pub mod Columns
 pub mod Planes

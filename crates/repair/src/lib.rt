@@ -1,4 +1,5 @@
 // Repair of a vector by check values: in each byte plane the one codeword within t places, or none.
+mod changed;
 mod columns;
 mod planes;
 
@@ -13,14 +14,21 @@ use code::sizes::CHECKS_ROOM;
 // The answer where some plane has no codeword near.
 const NONE: u32 = 256;
 
-// The vector repaired by the check values received, in the first n·w bytes of the output: 0, or 256 for "none", or the refusal
-// 1, 2, 3 or 18.
-pub fn repair(n: u32, t: u32, w: u32, vector: &[u8], checks: &[u8], output: &mut [u8]) -> u32
-    ensures { λ r. ⌜ Repair-says n t w (now (vector .entry)) (now (checks .entry)) r (now (output .entry)) (now (output .exit)) ⌝ }
+// What repair answers: 0, or 256 for "none", or the refusal 1, 2, 3 or 18; and how many of the n + 2t places it changed, 0 where it
+// repaired nothing.
+#[repr(C)]
+pub struct Repaired {
+    pub answer: u32,
+    pub changed: u32,
+}
+
+// The vector repaired by the check values received, in the first n·w bytes of the output.
+pub fn repair(n: u32, t: u32, w: u32, vector: &[u8], checks: &[u8], output: &mut [u8]) -> Repaired
+    ensures { λ r. ⌜ Repair-says n t w (now (vector .entry)) (now (checks .entry)) (r .answer) (r .changed) (now (output .entry)) (now (output .exit)) ⌝ }
 {
-    let refusal = refused(n, t, w, vector.len(), checks.len(), output.len());
-    if refusal != 0 {
-        return refusal;
+    let answer = refused(n, t, w, vector.len(), checks.len(), output.len());
+    if answer != 0 {
+        return Repaired { answer, changed: 0 };
     }
     let mut own = [0u8; CHECKS_ROOM];
     let end = checks.len();
@@ -45,15 +53,18 @@ pub fn repair_by(
     own: &[u8],
     checks: &[u8],
     output: &mut [u8],
-) -> u32
-    ensures { λ r. ⌜ Repair-by-says n t w (now (vector .entry)) (now (own .entry)) (now (checks .entry)) r (now (output .entry)) (now (output .exit)) ⌝ }
+) -> Repaired
+    ensures { λ r. ⌜ Repair-by-says n t w (now (vector .entry)) (now (own .entry)) (now (checks .entry)) (r .answer) (r .changed) (now (output .entry)) (now (output .exit)) ⌝ }
 {
-    let refusal = refused(n, t, w, vector.len(), checks.len(), output.len());
-    if refusal != 0 {
-        return refusal;
+    let answer = refused(n, t, w, vector.len(), checks.len(), output.len());
+    if answer != 0 {
+        return Repaired { answer, changed: 0 };
     }
     if own.len() != checks.len() {
-        return 18;
+        return Repaired {
+            answer: 18,
+            changed: 0,
+        };
     }
     by_difference(
         n as usize,
@@ -96,24 +107,31 @@ fn by_difference(
     own: &[u8],
     checks: &[u8],
     output: &mut [u8],
-) -> u32
+) -> Repaired
     requires { ⌜ settings-refusal (settings n t w) ≡ 0 ⌝ }
     requires { ⌜ (length (now vector) ≡ n * w) × (length (now own) ≡ 2 * t * w) × (length (now checks) ≡ 2 * t * w) × (n * w ≤ length (now output)) ⌝ }
-    ensures { λ r. ⌜ Done-by (settings n t w) (values-in (settings n t w) n (now (vector .entry))) (values-in (settings n t w) (2 * t) (now (own .entry))) (values-in (settings n t w) (2 * t) (now (checks .entry))) r (now (output .entry)) (now (output .exit)) ⌝ }
+    ensures { λ r. ⌜ Done-by (settings n t w) (values-in (settings n t w) n (now (vector .entry))) (values-in (settings n t w) (2 * t) (now (own .entry))) (values-in (settings n t w) (2 * t) (now (checks .entry))) (r .answer) (r .changed) (now (output .entry)) (now (output .exit)) ⌝ }
 {
     let count = 2 * t;
     let difference = sums::rows::difference(own, checks, count, w);
     if arrays::is_zero(&difference) {
         arrays::copy(output, 0, vector, 0, vector.len());
-        return 0;
+        return Repaired {
+            answer: 0,
+            changed: 0,
+        };
     }
     let powers = field::powers();
     let logarithms = field::logarithms();
     let errors = planes::decode(&powers, &logarithms, &difference, n, t, w);
     if !errors.found {
-        return NONE;
+        return Repaired {
+            answer: NONE,
+            changed: 0,
+        };
     }
     let weighted = errors.weighted;
     columns::apply_errors(&powers, &logarithms, vector, &weighted, n, w, output);
-    0
+    let changed = changed::count_changed(&weighted, n + count);
+    Repaired { answer: 0, changed }
 }

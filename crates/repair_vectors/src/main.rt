@@ -15,7 +15,7 @@ fn step(tally: Tally) -> Tally {
     let many = vector_file::fill(&mut checks, r.checks);
     let filled = vector_file::fill(&mut expected, r.filled);
     let room = vector_file::prepare(&mut output, r.room);
-    let answer = repair::repair(
+    let repaired = repair::repair(
         r.n,
         r.t,
         r.w,
@@ -24,7 +24,7 @@ fn step(tally: Tally) -> Tally {
         &mut output[..room],
     );
     let is_filled = vector_file::is_filled(&output, &expected[..filled]);
-    tally.with(answer == r.answer && is_filled)
+    tally.with(repaired.answer == r.answer && is_filled)
 }
 
 fn main() {

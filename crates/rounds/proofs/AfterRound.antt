@@ -1,6 +1,6 @@
 -- What closing makes of a column's record, read as a record of the definitions: V of its slots, a table of its slots' rows, and what
 -- the column has found after each of the three rounds. Read off the definitions, part by part. Assumes nothing.
-use mathlib.Core.Path.{_≡_, refl, sym, _∙_, ap, ap₂, subst}
+use mathlib.Core.Path.{_≡_, refl, sym, _∙_, ap, subst}
 use mathlib.Core.Bool.{Bool, true, false, cond}
 use mathlib.Core.List.{List, []}
 use mathlib.Core.Option.{Option}
@@ -8,9 +8,10 @@ use Prim.Native.Nat.{ℕ, suc, _+_, _*_, _-_, _≤_, _<_}
 use native.Mathlib.Numerals.{add-one}
 use native.Mathlib.Omega.{arith}
 use lib.Dec.{eqb}
-use lib.ListN.{getD, take}
+use lib.ListN.{length, getD, take, replicate}
 use borrow.Author.Tests.{eq-eqb, ne-eqb}
 use Rattle.arrays.specs.Array.{padded}
+use Rattle.arrays.proofs.Front.{front-value}
 use Rattle.code.specs.Settings.{Settings, settings, settings-refusal, check-count, value-size}
 use Rattle.code.specs.Size.{most-columns, value-room, vector-room}
 use Rattle.code.specs.Vector.{glued}
@@ -35,7 +36,7 @@ use Rattle.record.specs.declared.Findings.{Findings}
 use Rattle.record.specs.declared.Column.{Column}
 use Rattle.record.proofs.Refusal.{record-settings, record-number}
 use Rattle.rounds.proofs.Rows.{row-alike}
-use Rattle.record.proofs.View.{no-slots, frames-at, found-heard, found-agreed}
+use Rattle.record.proofs.View.{no-slots, frames-at, found-heard, found-agreed, found-two}
 
 -- a column whose record is not refused
 pub record Inside (i : Identity) : Type 0 where
@@ -86,23 +87,35 @@ unfolding operand-size
 checks-size s m h = rw (ne-eqb m 1 (λ e. absurd (omega arith)))
 
 pub rows-table :
-    (i : Identity) (m : ℕ) (slots : List Slot) (vs : Vector) (x : Planes) → Inside i → 2 ≤ m → Slot-rows (settings-of i) vs (i .number) slots x →
-    Table (inbox i m slots) vs (rows-in (i .n) (i .w) x)
-unfolding inbox who-in who-as settings-of settings value-size counted Slot-rows Slot-row
-rows-table i m slots vs x able h rows = record { many = rows-length (i .n) (i .w) x; own-row = own; others = others }
+    (i : Identity) (m : ℕ) (slots : List Slot) (vs : Vector) (x : Planes) (told : List ℕ) → Inside i → 2 ≤ m →
+    Slot-rows (settings-of i) vs (i .number) slots x told → Table (inbox i m slots) vs (rows-in (i .n) (i .w) x) told
+unfolding inbox who-in who-as settings-of settings value-size counted Slot-row
+rows-table i m slots vs x told able h rows =
+    record {
+      many = rows-length (i .n) (i .w) x;
+      told-many = rows .many;
+      own-row = row-at (i .n) (i .w) x (i .number - 1) (own .0) ∙ own .1;
+      own-told = own .2;
+      others = others;
+    }
   where
-    slot-row : (j : ℕ) (b : Bool) → j < i .n → eqb (j + 1) (i .number) ≡ b → Slot-row (settings-of i) vs b (getD slots j slot-past) (row-in (i .n) (i .w) x j)
-    slot-row j b l e = subst (λ (q : Bool). Slot-row (settings-of i) vs q (getD slots j slot-past) (row-in (i .n) (i .w) x j)) e (rows j l)
+    slot-row :
+        (j : ℕ) (b : Bool) → j < i .n → eqb (j + 1) (i .number) ≡ b →
+        Slot-row (settings-of i) vs b (getD slots j slot-past) (row-in (i .n) (i .w) x j) (getD told j 0)
+    slot-row j b l e =
+        subst (λ (q : Bool). Slot-row (settings-of i) vs q (getD slots j slot-past) (row-in (i .n) (i .w) x j) (getD told j 0)) e (rows .each j l)
 
-    own : getD (rows-in (i .n) (i .w) x) (i .number - 1) [] ≡ vs
+    own : (i .number - 1 < i .n) × (row-in (i .n) (i .w) x (i .number - 1) ≡ vs) × (getD told (i .number - 1) 0 ≡ 0)
     own =
         let low = able .number-low in
         let high = able .number-high in
         let l : i .number - 1 < i .n = omega arith in
-        row-at (i .n) (i .w) x (i .number - 1) l ∙ slot-row (i .number - 1) true l (eq-eqb (i .number - 1 + 1) (i .number) (omega arith))
+        let mine = slot-row (i .number - 1) true l (eq-eqb (i .number - 1 + 1) (i .number) (omega arith)) in
+        (l, mine .0, mine .1)
 
     others :
-        (k : ℕ) → 1 ≤ k → k ≤ i .n → (k ≡ i .number → ⊥) → Row (settings-of i) vs (counted (inbox i m slots) k) (getD (rows-in (i .n) (i .w) x) (k - 1) [])
+        (k : ℕ) → 1 ≤ k → k ≤ i .n → (k ≡ i .number → ⊥) →
+        Row (settings-of i) vs (counted (inbox i m slots) k) (getD (rows-in (i .n) (i .w) x) (k - 1) []) (getD told (k - 1) 0)
     others k a b d =
         let l : k - 1 < i .n = omega arith in
         let back : k - 1 + 1 ≡ k = omega arith in
@@ -110,12 +123,13 @@ rows-table i m slots vs x able h rows = record { many = rows-length (i .n) (i .w
         ap (λ (n : ℕ). frame-in n (getD slots (k - 1) slot-past)) (sym (checks-size (settings-of i) m h)) ∙ sym (slot-frame i m slots (k - 1) l)
         ∙ ap (taken-at (frames-in (settings-of i) m slots)) back in
         rw (row-at (i .n) (i .w) x (k - 1) l)
-        (row-alike _ refl refl frame (slot-row (k - 1) false l (ne-eqb (k - 1 + 1) (i .number) (λ e. d (sym back ∙ e)))))
+        (row-alike _ _ refl refl frame (slot-row (k - 1) false l (ne-eqb (k - 1 + 1) (i .number) (λ e. d (sym back ∙ e)))))
 
 -- a table goes by who the column is and what came in alone
-pub table-view : (c : Column) (vs : Vector) (rows : Rows) → Table (inbox (c .who) (c .round) (c .slots)) vs rows → Table (view c) vs rows
+pub table-view :
+    (c : Column) (vs : Vector) (rows : Rows) (told : List ℕ) → Table (inbox (c .who) (c .round) (c .slots)) vs rows told → Table (view c) vs rows told
 unfolding view inbox counted
-table-view c vs rows t = record { many = t .many; own-row = t .own-row; others = t .others }
+table-view c vs rows told t = record { many = t .many; told-many = t .told-many; own-row = t .own-row; own-told = t .own-told; others = t .others }
 
 heard-view : (c : Column) → c .round ≡ 1 → heard-vector (inbox (c .who) 1 (c .slots)) ≡ heard-vector (view c)
 unfolding heard-vector heard-at counted view inbox
@@ -149,42 +163,66 @@ module _ (c : Column) (i : Inside (c .who)) where
 
   pub finds-heard :
       (h : List ℕ) → c .round ≡ 1 → Stores (settings-of (c .who)) (heard-vector (inbox (c .who) 1 (c .slots))) h →
-      Finds c (record { heard = h; agreed = c .found .agreed; values = c .found .values; confidences = c .found .confidences })
+      Finds c
+      (record {
+        heard = h;
+        agreed = c .found .agreed;
+        values = c .found .values;
+        confidences = c .found .confidences;
+        «told_two» = c .found .«told_two»;
+        «told_three» = c .found .«told_three»;
+      })
   unfolding Closed found-in found-now found-as
   finds-heard h e v =
       let same = heard-view c e in
-      finds-of 1 _ (found-as (heard-vector (view c)) [] []) e (ap (λ (vs : Vector). found-as vs [] []) (v .reads ∙ same)) refl
-      (ap
-      (λ (bs : List ℕ). (let f : Findings = record { heard = bs; agreed = c .found .agreed; values = c .found .values; confidences = c .found .confidences } in f))
-      (v .bytes ∙ ap (λ (vs : Vector). padded vector-room (glued vs)) same))
+      finds-of 1 _ (found-as (heard-vector (view c)) [] [] [] []) e (ap (λ (vs : Vector). found-as vs [] [] [] []) (v .reads ∙ same)) refl
+      (cc (v .bytes ∙ ap (λ (vs : Vector). padded vector-room (glued vs)) same))
+
+  -- what a table told, in front of zeros, is read again
+  told-again : (told ms : List ℕ) → length ms ≡ c .who .n → told ≡ padded most-columns ms → take (c .who .n) told ≡ ms
+  unfolding padded
+  told-again told ms many e = ap (take (c .who .n)) e ∙ front-value ms (replicate most-columns 0) (c .who .n) many
 
   pub finds-agreed :
-      (a : List ℕ) (rows : Rows) → c .round ≡ 2 →
-      Table (inbox (c .who) (c .round) (c .slots)) (values-in (settings-of (c .who)) (c .who .n) (c .found .heard)) rows →
-      Stores (settings-of (c .who)) (agreed-vector (settings-of (c .who)) rows) a →
-      Finds c (record { heard = c .found .heard; agreed = a; values = c .found .values; confidences = c .found .confidences })
-  unfolding Closed found-in found-now found-as view who-in who-as settings-of settings
-  finds-agreed a rows e t y =
+      (a told ms : List ℕ) (rows : Rows) → c .round ≡ 2 →
+      Table (inbox (c .who) (c .round) (c .slots)) (values-in (settings-of (c .who)) (c .who .n) (c .found .heard)) rows ms →
+      Stores (settings-of (c .who)) (agreed-vector (settings-of (c .who)) rows) a → told ≡ padded most-columns ms →
+      Finds c
+      (record {
+        heard = c .found .heard;
+        agreed = a;
+        values = c .found .values;
+        confidences = c .found .confidences;
+        «told_two» = told;
+        «told_three» = c .found .«told_three»;
+      })
+  unfolding Closed found-in found-now found-as view inbox who-in who-as settings-of settings
+  finds-agreed a told ms rows e t y written =
       let heard = found-heard (settings-of (c .who)) (c .round) (c .found) (omega arith) in
-      finds-of 2 _ (found-as (view c .found .heard) (agreed-vector (settings-of (c .who)) rows) []) e
-      (ap₂ (λ (vs ys : Vector). found-as vs ys []) (sym heard) (y .reads))
-      (rows, subst (λ (vs : Vector). Table (view c) vs rows) (sym heard) (table-view c _ rows t), refl)
-      (ap
-      (λ (bs : List ℕ). (let f : Findings = record { heard = c .found .heard; agreed = bs; values = c .found .values; confidences = c .found .confidences } in f))
-      (y .bytes))
+      let again = told-again told ms (t .told-many) written in
+      finds-of 2 _ (found-as (view c .found .heard) (agreed-vector (settings-of (c .who)) rows) [] ms []) e (cc (heard, y .reads, again))
+      (rows, ms, subst (λ (vs : Vector). Table (view c) vs rows ms) (sym heard) (table-view c _ rows ms t), refl) (cc (y .bytes, written))
 
   pub finds-held :
-      (us cs : List ℕ) (rows : Rows) → c .round ≡ 3 →
-      Table (inbox (c .who) (c .round) (c .slots)) (values-in (settings-of (c .who)) (c .who .n) (c .found .agreed)) rows →
-      Stores-held (settings-of (c .who)) (held-list (settings-of (c .who)) rows) us cs →
-      Finds c (record { heard = c .found .heard; agreed = c .found .agreed; values = us; confidences = cs })
-  unfolding Closed found-in found-now found-as view who-in who-as settings-of settings
-  finds-held us cs rows e t h =
+      (us cs told ms : List ℕ) (rows : Rows) → c .round ≡ 3 →
+      Table (inbox (c .who) (c .round) (c .slots)) (values-in (settings-of (c .who)) (c .who .n) (c .found .agreed)) rows ms →
+      Stores-held (settings-of (c .who)) (held-list (settings-of (c .who)) rows) us cs → told ≡ padded most-columns ms →
+      Finds c
+      (record {
+        heard = c .found .heard;
+        agreed = c .found .agreed;
+        values = us;
+        confidences = cs;
+        «told_two» = c .found .«told_two»;
+        «told_three» = told;
+      })
+  unfolding Closed found-in found-now found-as view inbox who-in who-as settings-of settings
+  finds-held us cs told ms rows e t h written =
       let heard = found-heard (settings-of (c .who)) (c .round) (c .found) (omega arith) in
       let agreed = found-agreed (settings-of (c .who)) (c .round) (c .found) (omega arith) in
-      finds-of 3 _ (found-as (view c .found .heard) (view c .found .agreed) (held-list (settings-of (c .who)) rows)) e
-      (cc (heard, agreed, h .reads))
-      (rows, subst (λ (vs : Vector). Table (view c) vs rows) (sym agreed) (table-view c _ rows t), refl)
-      (ap₂
-      (λ (vs ks : List ℕ). (let f : Findings = record { heard = c .found .heard; agreed = c .found .agreed; values = vs; confidences = ks } in f))
-      (h .value-bytes) (h .confidence-bytes))
+      let two = found-two (settings-of (c .who)) (c .round) (c .found) (omega arith) in
+      let again = told-again told ms (t .told-many) written in
+      finds-of 3 _ (found-as (view c .found .heard) (view c .found .agreed) (held-list (settings-of (c .who)) rows) (view c .found .told-two) ms) e
+      (cc (heard, agreed, h .reads, two, again))
+      (rows, ms, subst (λ (vs : Vector). Table (view c) vs rows ms) (sym agreed) (table-view c _ rows ms t), refl)
+      (cc (h .value-bytes, h .confidence-bytes, written))

@@ -1,7 +1,8 @@
 -- Rows of a table. The checks that a good sender sends of its vector repair a vector that differs from it in at most t values, and
--- repair has one answer, so that the sender's row is its vector. For the same reason a record and a vector have one table.
+-- repair has one answer, so that the sender's row is its vector, and what it tells is in how many values the two differ. For the same
+-- reason a record and a vector have one table.
 -- Assumes nothing.
-use mathlib.Core.Path.{_≡_, refl, sym, _∙_, ap, subst}
+use mathlib.Core.Path.{_≡_, refl, sym, _∙_, ap, ap₂, subst}
 use mathlib.Core.Bool.{Bool, true, false}
 use mathlib.Core.List.{List, [], _∷_}
 use mathlib.Core.Logic.{inl, inr}
@@ -14,13 +15,13 @@ use lib.Seq.{ext-getD}
 use borrow.Author.Tests.{eqb-true, eqb-false}
 use Rattle.code.specs.Settings.{Settings, settings-refusal, check-count, value-size}
 use Rattle.code.specs.Vector.{plane, is-vector, has-checks, differ-values}
-use Rattle.code.specs.Repair.{Repaired, No-repair}
+use Rattle.code.specs.Repair.{changed-places}
 use Rattle.code.specs.Entry.{values-in}
-use Rattle.code.specs.Promise.{One-near, Repairs}
+use Rattle.code.specs.Promise.{One-repair, Repairs}
 use Rattle.arrays.proofs.Bytes.{Bytes}
 use Rattle.code.proofs.Codewords.Word.{word-of}
-use Rattle.code.proofs.Codewords.Near.{one-near}
-use Rattle.code.proofs.Vectors.Planes.{Values, vector-of, vector-back, plane-length, planes-same, checked-of, repairs}
+use Rattle.code.proofs.ValidSettings.{sizes}
+use Rattle.code.proofs.Vectors.Planes.{Values, vector-of, vector-back, checked-of, differ-values-le, repairs, one-repair, repaired-or-none}
 use Rattle.code.proofs.Vectors.Cut.{cut-length}
 use Rattle.grading.specs.Value.{Value, Vector, Rows, blanks}
 use Rattle.grading.specs.Count.{agreed-vector, held-list}
@@ -28,6 +29,7 @@ use Rattle.grading.proofs.Value.{blank-size}
 use Rattle.record.specs.Frame.{checks-in}
 use Rattle.record.specs.Record.{Rec, found-as, counted, next-round}
 use Rattle.rounds.specs.Exchange.{Row, Table, Closed}
+use Rattle.rounds.specs.Promise.{No-mark}
 
 -- n values, each of the size of a value
 pub record Sized (s : Settings) (vs : Vector) : Type 0 where
@@ -48,78 +50,73 @@ unfolding blanks
 blanks-sized s =
     record { many = length-replicate (s .n) _; each = λ j h. ap length (getD-replicate (s .n) j _ [] h) ∙ blank-size s }
 
-pub row-sized : (s : Settings) (vs : Vector) (f : Option (List ℕ)) (row : Vector) → Row s vs f row → Sized s row
+pub row-sized : (s : Settings) (vs : Vector) (f : Option (List ℕ)) (row : Vector) (m : ℕ) → Row s vs f row m → Sized s row
 unfolding Row
-row-sized s vs none row r = rw r (blanks-sized s)
-row-sized s vs (some x) row (inl r) = vector-sized s row (r .vector)
-row-sized s vs (some x) row (inr r) = rw (r .1) (blanks-sized s)
+row-sized s vs none row m r = rw (r .0) (blanks-sized s)
+row-sized s vs (some x) row m (inl r) = vector-sized s row (r .1 .vector)
+row-sized s vs (some x) row m (inr r) = rw (r .1) (blanks-sized s)
 
 pub row-alike :
-    (row : Vector) {s u : Settings} {vs ws : Vector} {f g : Option (List ℕ)} → s ≡ u → vs ≡ ws → f ≡ g → Row s vs f row → Row u ws g row
-row-alike row {s} {u} {vs} {ws} {f} {g} d e h r =
-    subst (λ (x : Settings). Row x ws g row) d (subst (λ (x : Vector). Row s x g row) e (subst (λ (x : Option (List ℕ)). Row s vs x row) h r))
+    (row : Vector) (m : ℕ) {s u : Settings} {vs ws : Vector} {f g : Option (List ℕ)} → s ≡ u → vs ≡ ws → f ≡ g → Row s vs f row m → Row u ws g row m
+row-alike row m {s} {u} {vs} {ws} {f} {g} d e h r =
+    subst (λ (x : Settings). Row x ws g row m) d (subst (λ (x : Vector). Row s x g row m) e (subst (λ (x : Option (List ℕ)). Row s vs x row m) h r))
 
 -- every row of a table is its own or another's
 pub table-rows :
-    (P : ℕ → Vector → Type 0) (r : Rec) (vs : Vector) (rows : Rows) → 1 ≤ r .who .number → Table r vs rows → P (r .who .number - 1) vs →
-    ((j : ℕ) (row : Vector) → j < r .who .settings .n → (suc j ≡ r .who .number → ⊥) → Row (r .who .settings) vs (counted r (suc j)) row → row ≡ getD rows j [] → P j row) →
-    (j : ℕ) → j < r .who .settings .n → P j (getD rows j [])
-table-rows P r vs rows low t own other j h = go (eqb (suc j) (r .who .number)) refl
+    (P : ℕ → Vector → ℕ → Type 0) (r : Rec) (vs : Vector) (rows : Rows) (told : List ℕ) → 1 ≤ r .who .number → Table r vs rows told →
+    P (r .who .number - 1) vs 0 →
+    ((j : ℕ) (row : Vector) (m : ℕ) → j < r .who .settings .n → (suc j ≡ r .who .number → ⊥) → Row (r .who .settings) vs (counted r (suc j)) row m → P j row m) →
+    (j : ℕ) → j < r .who .settings .n → P j (getD rows j []) (getD told j 0)
+table-rows P r vs rows told low t own other j h = go (eqb (suc j) (r .who .number)) refl
   where
-    go : (q : Bool) → eqb (suc j) (r .who .number) ≡ q → P j (getD rows j [])
+    go : (q : Bool) → eqb (suc j) (r .who .number) ≡ q → P j (getD rows j []) (getD told j 0)
     go true e =
         let mine : j ≡ r .who .number - 1 = omega (arith, eqb-true (suc j) (r .who .number) e) in
-        rw mine (rw (t .own-row) own)
+        rw mine (rw (t .own-row, t .own-told) own)
     go false e =
         let back : suc j - 1 ≡ j = omega arith in
         let different = eqb-false (suc j) (r .who .number) e in
-        other j (getD rows j []) h different (rw back at (t .others (suc j) (omega arith) h different)) refl
+        other j (getD rows j []) (getD told j 0) h different (rw back at (t .others (suc j) (omega arith) h different))
 
-pub table-sized : (r : Rec) (vs : Vector) (rows : Rows) → 1 ≤ r .who .number → Sized (r .who .settings) vs → Table r vs rows → (j : ℕ) → j < r .who .settings .n → Sized (r .who .settings) (getD rows j [])
-table-sized r vs rows low v t j h =
-    table-rows (λ i row. Sized (r .who .settings) row) r vs rows low t v (λ i row l d x e. row-sized (r .who .settings) vs _ row x) j h
+pub table-sized :
+    (r : Rec) (vs : Vector) (rows : Rows) (told : List ℕ) → 1 ≤ r .who .number → Sized (r .who .settings) vs → Table r vs rows told →
+    (j : ℕ) → j < r .who .settings .n → Sized (r .who .settings) (getD rows j [])
+table-sized r vs rows told low v t j h =
+    table-rows (λ i row m. Sized (r .who .settings) row) r vs rows told low t v (λ i row m l d x. row-sized (r .who .settings) vs _ row m x) j h
 
 -- repair has one answer
 checks-length : (s : Settings) (x : List ℕ) → length (checks-in s x) ≡ check-count s
 unfolding checks-in values-in
 checks-length s x = cut-length (check-count s) (value-size s) x
 
-pub repaired-unique :
-    (s : Settings) (vs cs us ws : Vector) → settings-refusal s ≡ 0 → length vs ≡ s .n → length cs ≡ check-count s → Repaired s vs cs us → Repaired s vs cs ws →
-    us ≡ ws
-unfolding One-near
-repaired-unique s vs cs us ws fine e f a b =
-    let u = vector-of s us (a .vector) in
-    let w = vector-of s ws (b .vector) in
-    planes-same (value-size s) us ws (u .many ∙ sym (w .many)) (u .values) (w .values)
-    (λ p h. one-near s (plane p vs) (plane p cs) (plane p us) (a .planes p h .0) (plane p ws) (b .planes p h .0) fine (plane-length p vs ∙ e)
-    (plane-length p cs ∙ f) (a .planes p h .1) (b .planes p h .1) .0)
+-- a frame gives one row, and tells one thing
+row-unique :
+    (s : Settings) (vs : Vector) (f : Option (List ℕ)) (row other : Vector) (m k : ℕ) → settings-refusal s ≡ 0 → length vs ≡ s .n → Row s vs f row m →
+    Row s vs f other k → (row ≡ other) × (m ≡ k)
+unfolding Row One-repair
+row-unique s vs none row other m k fine e a b = (a .0 ∙ sym (b .0), a .1 ∙ sym (b .1))
+row-unique s vs (some x) row other m k fine e (inl a) (inl b) =
+    let one = one-repair s vs (checks-in s x) row (a .0) other (b .0) fine e (checks-length s x) (a .1) (b .1) in
+    (one .0, a .2 ∙ ap₂ (changed-places vs (checks-in s x)) (one .0) (one .1) ∙ sym (b .2))
+row-unique s vs (some x) row other m k fine e (inl a) (inr b) = absurd (repaired-or-none s vs _ row (a .0) (a .1) (b .0))
+row-unique s vs (some x) row other m k fine e (inr a) (inl b) = absurd (repaired-or-none s vs _ other (b .0) (b .1) (a .0))
+row-unique s vs (some x) row other m k fine e (inr a) (inr b) = (a .1 ∙ sym (b .1), a .2 ∙ sym (b .2))
 
-pub repaired-or-none : (s : Settings) (vs cs us : Vector) → Repaired s vs cs us → No-repair s vs cs → ⊥
-repaired-or-none s vs cs us a b =
-    let near = a .planes (b .at-plane) (b .inside) in b .none-near (plane (b .at-plane) us) (near .0) (near .1)
-
-pub row-unique :
-    (s : Settings) (vs : Vector) (f : Option (List ℕ)) (row other : Vector) → settings-refusal s ≡ 0 → length vs ≡ s .n → Row s vs f row → Row s vs f other →
-    row ≡ other
-unfolding Row
-row-unique s vs none row other fine e a b = a ∙ sym b
-row-unique s vs (some x) row other fine e (inl a) (inl b) = repaired-unique s vs (checks-in s x) row other fine e (checks-length s x) a b
-row-unique s vs (some x) row other fine e (inl a) (inr b) = absurd (repaired-or-none s vs _ row a (b .0))
-row-unique s vs (some x) row other fine e (inr a) (inl b) = absurd (repaired-or-none s vs _ other b (a .0))
-row-unique s vs (some x) row other fine e (inr a) (inr b) = a .1 ∙ sym (b .1)
-
-pub table-unique :
-    (r : Rec) (vs : Vector) (rows others : Rows) → settings-refusal (r .who .settings) ≡ 0 → 1 ≤ r .who .number → length vs ≡ r .who .settings .n → Table r vs rows →
-    Table r vs others → rows ≡ others
-table-unique r vs rows others fine low e a b =
-    ext-getD [] rows others (a .many ∙ sym (b .many))
-    (λ j h.
-    table-rows (λ i row. row ≡ getD others i []) r vs rows low a (sym (b .own-row))
-    (λ i row l d x f.
-    (let back : suc i - 1 ≡ i = omega arith in
-    row-unique (r .who .settings) vs _ row (getD others i []) fine e x (rw back at (b .others (suc i) (omega arith) l d))))
-    j (rw (a .many) at h))
+table-unique :
+    (r : Rec) (vs : Vector) (rows others : Rows) (told heard : List ℕ) → settings-refusal (r .who .settings) ≡ 0 → 1 ≤ r .who .number →
+    length vs ≡ r .who .settings .n → Table r vs rows told → Table r vs others heard → (rows ≡ others) × (told ≡ heard)
+table-unique r vs rows others told heard fine low e a b = (
+  ext-getD [] rows others (a .many ∙ sym (b .many)) (λ j h. each j (rw (a .many) at h) .0),
+  ext-getD 0 told heard (a .told-many ∙ sym (b .told-many)) (λ j h. each j (rw (a .told-many) at h) .1),
+)
+  where
+    each : (j : ℕ) → j < r .who .settings .n → (getD rows j [] ≡ getD others j []) × (getD told j 0 ≡ getD heard j 0)
+    each j h =
+        table-rows (λ i row m. (row ≡ getD others i []) × (m ≡ getD heard i 0)) r vs rows told low a (sym (b .own-row), sym (b .own-told))
+        (λ i row m l d x.
+        (let back : suc i - 1 ≡ i = omega arith in
+        row-unique (r .who .settings) vs _ row (getD others i []) m (getD heard i 0) fine e x (rw back at (b .others (suc i) (omega arith) l d))))
+        j h
 
 -- and so a round closed has one outcome
 pub closed-unique :
@@ -129,15 +126,17 @@ unfolding Closed
 closed-unique zero r q z fine low v y a b = a ∙ sym b
 closed-unique (suc zero) r q z fine low v y a b = a ∙ sym b
 closed-unique (suc (suc zero)) r q z fine low v y a b =
-    a .2
-    ∙ ap (λ (rows : Rows). next-round r (found-as (r .found .heard) (agreed-vector (r .who .settings) rows) []))
-    (table-unique r (r .found .heard) (a .0) (b .0) fine low (v refl) (a .1) (b .1))
-    ∙ sym (b .2)
+    let one = table-unique r (r .found .heard) (a .0) (b .0) (a .1) (b .1) fine low (v refl) (a .2) (b .2) in
+    a .3
+    ∙ ap₂ (λ (rows : Rows) (told : List ℕ). next-round r (found-as (r .found .heard) (agreed-vector (r .who .settings) rows) [] told [])) (one .0) (one .1)
+    ∙ sym (b .3)
 closed-unique (suc (suc (suc zero))) r q z fine low v y a b =
-    a .2
-    ∙ ap (λ (rows : Rows). next-round r (found-as (r .found .heard) (r .found .agreed) (held-list (r .who .settings) rows)))
-    (table-unique r (r .found .agreed) (a .0) (b .0) fine low (y refl) (a .1) (b .1))
-    ∙ sym (b .2)
+    let one = table-unique r (r .found .agreed) (a .0) (b .0) (a .1) (b .1) fine low (y refl) (a .2) (b .2) in
+    a .3
+    ∙ ap₂
+    (λ (rows : Rows) (told : List ℕ). next-round r (found-as (r .found .heard) (r .found .agreed) (held-list (r .who .settings) rows) (r .found .told-two) told))
+    (one .0) (one .1)
+    ∙ sym (b .3)
 closed-unique (suc (suc (suc (suc m)))) r q z fine low v y a b = a ∙ sym b
 
 -- what has check values, and values of the right size, is a vector
@@ -162,10 +161,22 @@ checked-vector s vs cs e v =
           bytes-of-planes (value-size s) vs (λ j h. v .each j (rw (v .many) at h)) (λ p h. word-of s (plane p vs) (plane p cs) (c .planes p h) .shape .bytes);
     })
 
--- the row that a sender's checks give is the sender's vector
+-- the row that a sender's checks give is the sender's vector, and the places changed are those where it differs from the own one
 pub row-of-sender :
-    (s : Settings) (vs us : Vector) (x : List ℕ) (row : Vector) → settings-refusal s ≡ 0 → is-vector s vs ≡ true → is-vector s us ≡ true →
-    has-checks s us (checks-in s x) ≡ true → differ-values vs us ≤ s .t → Row s vs (some x) row → row ≡ us
+    (s : Settings) (vs us : Vector) (x : List ℕ) (row : Vector) (m : ℕ) → settings-refusal s ≡ 0 → is-vector s vs ≡ true → is-vector s us ≡ true →
+    has-checks s us (checks-in s x) ≡ true → differ-values vs us ≤ s .t → Row s vs (some x) row m → (row ≡ us) × (m ≡ differ-values vs us)
 unfolding Repairs Row
-row-of-sender s vs us x row fine v u c d w =
-    row-unique s vs (some x) row us fine (vector-of s vs v .many) w (inl (repairs s vs us (checks-in s x) fine v u c d))
+row-of-sender s vs us x row m fine v u c d w =
+    let repair = repairs s vs us (checks-in s x) fine v u c d in
+    row-unique s vs (some x) row us m (differ-values vs us) fine (vector-of s vs v .many) w (inl (checks-in s x, repair .0, sym (repair .1)))
+
+-- the marks are no numbers of places
+pub no-mark : No-mark
+unfolding No-mark changed-places check-count
+no-mark s vs cs us ds fine e f =
+    let few = sizes s fine in
+    let columns = differ-values-le vs us in
+    let checks = differ-values-le cs ds in
+    let columns-few = few .few-columns in
+    let bad-few = few .few-bad in
+    (omega arith, omega arith)

@@ -1,12 +1,13 @@
 -- The row that a sender's frame gives. Repair by the difference from the own checks is repair, as the own checks are the vector's; what
--- it leaves in front of a row of zeros is the repaired vector, or, where there is none, the zeros, which are blanks. Assumes nothing.
+-- it leaves in front of a row of zeros is the repaired vector, or, where there is none, the zeros, which are blanks; and what it tells is
+-- the places changed, or the mark. Assumes nothing.
 use mathlib.Core.Path.{_≡_, refl, sym, _∙_, ap, ap₂, subst}
 use mathlib.Core.Bool.{true}
 use mathlib.Core.List.{List, [], _∷_, _++_, map, append-assoc}
 use mathlib.Core.Logic.{inl, inr}
 use mathlib.Core.Option.{some}
 use mathlib.Mathlib.Data.Bool.Basic.{and-intro}
-use Prim.Native.Nat.{ℕ, zero, suc, _+_, _*_, _-_, _≤_}
+use Prim.Native.Nat.{ℕ, zero, suc, _+_, _*_, _-_, _<_, _≤_}
 use native.Mathlib.Nat.{suc-mul}
 use native.Mathlib.Omega.{arith}
 use lib.ListN.{length, take, drop, replicate, length-drop, take-append-drop}
@@ -23,14 +24,16 @@ use Rattle.arrays.proofs.Bytes.{Bytes}
 use Rattle.code.proofs.Vectors.Cut.{cut-length, cut-values, value-fits}
 use Rattle.code.proofs.ValidSettings.{values-fit, sizes}
 use Rattle.code.proofs.Vectors.Planes.{vector-of, values-back}
-use Rattle.repair.specs.Entry.{Done, Done-by, repair-refusal, repair-by-refusal, Repair-by-as, Repair-by-says, By-own-checks}
+use Rattle.repair.specs.Entry.{none-found, Done, Done-by, repair-refusal, repair-by-refusal, Repair-by-as, Repair-by-says, By-own-checks}
 use Rattle.repair.proofs.Difference.ByOwnChecks.{by-own-checks}
 use Rattle.grading.specs.Value.{blank, blanks}
 use Rattle.grading.proofs.Value.{take-replicate}
 use Rattle.counting.proofs.Placed.{cut-at}
 use Rattle.record.specs.Frame.{checks-in}
+use Rattle.record.specs.Record.{told-missing, told-none}
 use Rattle.rounds.specs.Exchange.{Row}
-use Rattle.rounds.proofs.Rows.{Sized, checked-vector}
+use Rattle.rounds.specs.Promise.{No-mark}
+use Rattle.rounds.proofs.Rows.{Sized, checked-vector, no-mark}
 use Rattle.record.proofs.Front.{cut-glued, cut-front}
 
 -- an array of bytes in a struct holds bytes
@@ -76,19 +79,31 @@ module _ (s : Settings) (vs : List (List ℕ)) (x row : List ℕ) (empty : value
   abbrev size : ℕ
   size = s .n * value-size s
 
-  done-row : (r : ℕ) (z : List ℕ) → Done s vs (checks-in s x) r (take size row) z → Row s vs (some x) (values-in s (s .n) (z ++ drop size row))
-  unfolding Done Row values-in in-front
-  done-row r z (inl d) =
-      let us = d .1 .0 in
-      let v = vector-of s us (d .1 .1 .vector) in
+  -- and what it tells: the places changed, or the mark
+  done-row :
+      (r m told : ℕ) (z : List ℕ) → (r ≡ 0 → told ≡ m) → ((r ≡ 0 → ⊥) → told ≡ told-none) → Done s vs (checks-in s x) r m (take size row) z →
+      Row s vs (some x) (values-in s (s .n) (z ++ drop size row)) told
+  unfolding Done Row values-in in-front none-found
+  done-row r m told z e f (inl (done, (us, ds, repaired, count, written))) =
+      let v = vector-of s us (repaired .vector) in
       let rest = drop (length (glued us)) (take size row) in
-      let e : cut (s .n) (value-size s) (z ++ drop size row) ≡ us =
-      ap (λ (bs : List ℕ). cut (s .n) (value-size s) (bs ++ drop size row)) (d .1 .2) ∙ ap (cut (s .n) (value-size s)) (append-assoc (glued us) rest _)
+      let q : cut (s .n) (value-size s) (z ++ drop size row) ≡ us =
+      ap (λ (bs : List ℕ). cut (s .n) (value-size s) (bs ++ drop size row)) written ∙ ap (cut (s .n) (value-size s)) (append-assoc (glued us) rest _)
       ∙ ap (λ (k : ℕ). cut k (value-size s) (glued us ++ (rest ++ drop size row))) (sym (v .many)) ∙ cut-glued (value-size s) us _ (v .values) in
-      inl (rw e (d .1 .1))
-  done-row r z (inr d) =
-      inr
-      (d .1, ap (λ (bs : List ℕ). cut (s .n) (value-size s) (bs ++ drop size row)) (d .2) ∙ ap (cut (s .n) (value-size s)) (take-append-drop size row) ∙ empty)
+      inl (rw q (ds, repaired, e done ∙ count))
+  done-row r m told z e f (inr (none, count, no-repair, kept)) =
+      inr (
+        no-repair,
+        ap (λ (bs : List ℕ). cut (s .n) (value-size s) (bs ++ drop size row)) kept ∙ ap (cut (s .n) (value-size s)) (take-append-drop size row) ∙ empty,
+        f (λ g. omega arith),
+      )
+
+  -- the places changed are few
+  done-few : (r m : ℕ) (o z : List ℕ) → settings-refusal s ≡ 0 → length vs ≡ s .n → Done s vs (checks-in s x) r m o z → m < told-missing
+  unfolding Done No-mark checks-in values-in
+  done-few r m o z fine e (inl (done, (us, ds, repaired, count, written))) =
+      rw count (no-mark s vs (checks-in s x) us ds fine e (cut-length (check-count s) (value-size s) x) .0)
+  done-few r m o z fine e (inr (none, count, no-repair, kept)) = omega arith
 
 -- repair is not refused
 fine-by :
@@ -115,26 +130,37 @@ module _ (n t w size count : ℕ) (vector own x row : List ℕ) (fine : settings
     (x-long : length x ≡ 2 * t * w) (x-bytes : Bytes x)
     (checked : has-checks (settings n t w) (values-in (settings n t w) n vector) (checks-in (settings n t w) (take (2 * t * w) own)) ≡ true)
     (row-long : size ≤ length row) (empty : values-in (settings n t w) n row ≡ blanks (settings n t w)) where
-  pub repaired-row :
-      (r : ℕ) (z : List ℕ) → Repair-by-says n t w (take size vector) (take count own) x r (take size row) z →
-      Row (settings n t w) (values-in (settings n t w) n vector) (some x) (values-in (settings n t w) n (z ++ drop size row))
-  unfolding Repair-by-says Repair-by-as By-own-checks values-in checks-in settings check-count value-size
-  repaired-row r z says = rw many (done-row s (values-in s n vector) x row empty r z (by-own-checks s _ _ _ r _ z vector-fine checked checks-fine done))
-    where
-      s : Settings
-      s = settings n t w
+  abbrev s : Settings
+  s = settings n t w
 
-      vector-fine : is-vector s (values-in s n vector) ≡ true
-      vector-fine = checked-vector s _ _ checked (cut-sized s vector (omega arith))
+  module _ (r m : ℕ) (z : List ℕ) (says : Repair-by-says n t w (take size vector) (take count own) x r m (take size row) z) where
+    vector-fine : is-vector s (values-in s n vector) ≡ true
+    unfolding settings value-size
+    vector-fine = checked-vector s _ _ checked (cut-sized s vector (omega arith))
 
-      checks-fine : are-checks s (checks-in s x) ≡ true
-      checks-fine = received-checks s x (omega (arith, x-long)) x-bytes
+    checks-fine : are-checks s (checks-in s x) ≡ true
+    unfolding settings check-count value-size
+    checks-fine = received-checks s x (omega (arith, x-long)) x-bytes
 
-      taken : Repair-by-as 0 s (take (n * w) vector) (take (2 * t * w) own) x r (take (n * w) row) z
-      taken =
-          subst (λ (k : ℕ). Repair-by-as k s (take (n * w) vector) (take (2 * t * w) own) x r (take (n * w) row) z)
-          (fine-by s _ _ _ _ fine (length-take-le (n * w) vector (omega arith)) (length-take-le (2 * t * w) own (omega arith)) x-long
-          (let l = length-take-le (n * w) row (omega arith) in omega arith)) (rw (many, few) at says)
+    taken : Repair-by-as 0 s (take (n * w) vector) (take (2 * t * w) own) x r m (take (n * w) row) z
+    unfolding Repair-by-says settings check-count value-size
+    taken =
+        subst (λ (k : ℕ). Repair-by-as k s (take (n * w) vector) (take (2 * t * w) own) x r m (take (n * w) row) z)
+        (fine-by s _ _ _ _ fine (length-take-le (n * w) vector (omega arith)) (length-take-le (2 * t * w) own (omega arith)) x-long
+        (let l = length-take-le (n * w) row (omega arith) in omega arith)) (rw (many, few) at says)
 
-      done : Done-by s (values-in s n vector) (checks-in s (take (2 * t * w) own)) (checks-in s x) r (take (n * w) row) z
-      done = subst (λ (vs : List (List ℕ)). Done-by s vs (checks-in s (take (2 * t * w) own)) (checks-in s x) r (take (n * w) row) z) (cut-front n w vector) taken
+    done : Done s (values-in s n vector) (checks-in s x) r m (take (n * w) row) z
+    unfolding Repair-by-as By-own-checks values-in checks-in settings check-count value-size
+    done =
+        by-own-checks s _ _ _ r m _ z vector-fine checked checks-fine
+        (subst (λ (vs : List (List ℕ)). Done-by s vs (checks-in s (take (2 * t * w) own)) (checks-in s x) r m (take (n * w) row) z) (cut-front n w vector) taken)
+
+    pub repaired-row :
+        (m < told-missing)
+        × ((told : ℕ) → (r ≡ 0 → told ≡ m) → ((r ≡ 0 → ⊥) → told ≡ told-none) →
+        Row s (values-in s n vector) (some x) (values-in s n (z ++ drop size row)) told)
+    unfolding settings values-in value-size
+    repaired-row = (
+      done-few s (values-in s n vector) x row empty r m _ z fine (cut-length n w vector) done,
+      λ told e f. rw many (done-row s (values-in s n vector) x row empty r m told z e f done),
+    )

@@ -2,15 +2,15 @@
 ghost use mathlib.Core.Path.{_≡_};
 ghost use mathlib.Core.Bool.{cond};
 ghost use Prim.Native.Nat.{_≤_};
-ghost use lib.ListN.{take};
-ghost use Rattle.code.specs.Size.{value-room};
+ghost use lib.ListN.{length, take};
+ghost use Rattle.code.specs.Size.{most-columns, value-room};
 ghost use Rattle.code.specs.Entry.{values-in};
 ghost use Rattle.counting.specs.Stored.{Stores};
 ghost use Rattle.counting.specs.Steps.Table.{rows-in};
 ghost use Rattle.record.specs.Refusal.{record-refusal, close-refusal};
-ghost use Rattle.rounds.specs.Exchange.{value-or-blank, heard-vector, Table as «Table-of»};
+ghost use Rattle.rounds.specs.Exchange.{value-or-blank, heard-vector};
 ghost use Rattle.record.specs.View.{settings-of, who-in, frame-in, inbox, view};
-ghost use Rattle.rounds.specs.Steps.Closing.{Finds, checked-in};
+ghost use Rattle.rounds.specs.Steps.Closing.{Table-told, Finds, checked-in};
 use crate::senders;
 use code::sizes::MOST_COLUMNS;
 use code::sizes::VALUE_ROOM;
@@ -73,14 +73,20 @@ pub fn checked(round: u32, found: Findings) -> [u8; VECTOR_ROOM]
     agreed
 }
 
-// The table of rounds two and three, X or Z, from V or Y.
-fn table(who: Identity, round: u32, slots: [Slot; MOST_COLUMNS], vector: [u8; VECTOR_ROOM]) -> Table
-    requires { ⌜ (record-refusal (who-in who) ≡ 0) × (2 ≤ round) ⌝ }
-    ensures { λ r. ⌜ Table-of (inbox who round slots) (values-in (settings-of who) (who .n) vector) (rows-in (who .n) (who .w) r) ⌝ }
+// The table of rounds two and three, X or Z, from V or Y; what it tells of each sender goes to the front of an array.
+fn table(
+    who: Identity,
+    round: u32,
+    slots: [Slot; MOST_COLUMNS],
+    vector: [u8; VECTOR_ROOM],
+    told: &mut [u8],
+) -> Table
+    requires { ⌜ (record-refusal (who-in who) ≡ 0) × (2 ≤ round) × (most-columns ≤ length (now told)) ⌝ }
+    ensures { λ r. ⌜ Table-told (inbox who round slots) (values-in (settings-of who) (who .n) vector) (rows-in (who .n) (who .w) r) (now (told .entry)) (now (told .exit)) ⌝ }
 {
     let own = senders::with_checks(who.n, who.t, who.w, vector);
     let number = who.number as usize;
-    senders::table_of(own, number, slots)
+    senders::table_of(own, number, slots, told)
 }
 
 // What the column has found when its round is closed.
@@ -97,13 +103,15 @@ pub fn found_after(column: Column) -> Findings
         return found;
     }
     let vector = checked(column.round, found);
-    let rows = table(who, column.round, slots, vector);
+    let mut told = [0u8; MOST_COLUMNS];
+    let rows = table(who, column.round, slots, vector, &mut told);
     let n = who.n as usize;
     let t = who.t as usize;
     let w = who.w as usize;
     if column.round == 2 {
         let agreed = tally::agreed(rows, n, t, w);
         found.agreed = agreed;
+        found.told_two = told;
         return found;
     }
     let held = tally::held(rows, n, t, w);
@@ -111,5 +119,6 @@ pub fn found_after(column: Column) -> Findings
     let confidences = held.confidences;
     found.values = values;
     found.confidences = confidences;
+    found.told_three = told;
     found
 }

@@ -1,14 +1,14 @@
 // The table of a round: for each sender the own vector, repaired by the checks that came in its frame.
 ghost use mathlib.Core.Path.{_≡_};
 ghost use mathlib.Core.Bool.{true, false};
-ghost use Prim.Native.Nat.{_*_};
+ghost use Prim.Native.Nat.{_*_, _≤_};
 ghost use lib.ListN.{length};
 ghost use Rattle.code.specs.Settings.{settings, settings-refusal, check-count, value-size};
-ghost use Rattle.code.specs.Size.{vector-room};
+ghost use Rattle.code.specs.Size.{most-columns, vector-room};
 ghost use Rattle.code.specs.Vector.{has-checks};
 ghost use Rattle.code.specs.Entry.{values-in};
 ghost use Rattle.record.specs.Frame.{checks-in};
-ghost use Rattle.rounds.specs.Steps.Senders.{coded-settings, coded-vector, Coded-right, Slot-row, Slot-rows};
+ghost use Rattle.rounds.specs.Steps.Senders.{coded-settings, coded-vector, Coded-right, Slot-row, Slots-told};
 use code::sizes::CHECKS_ROOM;
 use code::sizes::MOST_COLUMNS;
 use code::sizes::VALUE_ROOM;
@@ -17,6 +17,8 @@ use counting::filling;
 use counting::table::Table;
 use record::HEADER;
 use record::Slot;
+use record::TOLD_MISSING;
+use record::TOLD_NONE;
 use record::frames;
 
 // The check values of a vector that stands in the front of an array.
@@ -53,14 +55,23 @@ pub fn with_checks(n: u32, t: u32, w: u32, vector: [u8; VECTOR_ROOM]) -> Coded
     }
 }
 
+// A sender's row, and what it tells of the sender: how many places were changed, or a mark.
+pub struct Row {
+    pub values: [u8; VECTOR_ROOM],
+    pub told: u8,
+}
+
 // The row of a sender: a missing frame gives blanks, and so does "none", which leaves the row as it was.
-fn repaired(own: Coded, slot: Slot) -> [u8; VECTOR_ROOM]
+fn repaired(own: Coded, slot: Slot) -> Row
     requires { ⌜ Coded-right own ⌝ }
-    ensures { λ r. ⌜ Slot-row (coded-settings own) (coded-vector own) false slot (values-in (coded-settings own) (own .n) r) ⌝ }
+    ensures { λ r. ⌜ Slot-row (coded-settings own) (coded-vector own) false slot (values-in (coded-settings own) (own .n) (r .values)) (r .told) ⌝ }
 {
-    let mut row = [0u8; VECTOR_ROOM];
+    let mut values = [0u8; VECTOR_ROOM];
     if slot.taken == 0 {
-        return row;
+        return Row {
+            values,
+            told: TOLD_MISSING,
+        };
     }
     let size = record::vector_size(own.n, own.w);
     let count = frames::operand_size(own.t, own.w, 2);
@@ -68,34 +79,43 @@ fn repaired(own: Coded, slot: Slot) -> [u8; VECTOR_ROOM]
     let vector = own.vector;
     let own_checks = own.checks;
     let frame = slot.bytes;
-    repair::repair_by(
+    let outcome = repair::repair_by(
         own.n,
         own.t,
         own.w,
         &vector[..size],
         &own_checks[..count],
         &frame[HEADER..end],
-        &mut row[..size],
+        &mut values[..size],
     );
-    row
+    if outcome.answer != 0 {
+        return Row {
+            values,
+            told: TOLD_NONE,
+        };
+    }
+    Row {
+        values,
+        told: outcome.changed as u8,
+    }
 }
 
 // The row of a slot, which may be the column's own.
-fn slot_row(own: Coded, mine: bool, slot: Slot) -> [u8; VECTOR_ROOM]
+fn slot_row(own: Coded, mine: bool, slot: Slot) -> Row
     requires { ⌜ Coded-right own ⌝ }
-    ensures { λ r. ⌜ Slot-row (coded-settings own) (coded-vector own) mine slot (values-in (coded-settings own) (own .n) r) ⌝ }
+    ensures { λ r. ⌜ Slot-row (coded-settings own) (coded-vector own) mine slot (values-in (coded-settings own) (own .n) (r .values)) (r .told) ⌝ }
 {
     if mine {
-        let vector = own.vector;
-        return vector;
+        let values = own.vector;
+        return Row { values, told: 0 };
     }
     repaired(own, slot)
 }
 
-// The table of a column with this number.
-pub fn table_of(own: Coded, number: usize, slots: [Slot; MOST_COLUMNS]) -> Table
-    requires { ⌜ Coded-right own ⌝ }
-    ensures { λ r. ⌜ Slot-rows (coded-settings own) (coded-vector own) number slots r ⌝ }
+// The table of a column with this number; what it tells of each sender goes to the front of an array.
+pub fn table_of(own: Coded, number: usize, slots: [Slot; MOST_COLUMNS], told: &mut [u8]) -> Table
+    requires { ⌜ Coded-right own × (most-columns ≤ length (now told)) ⌝ }
+    ensures { λ r. ⌜ Slots-told (coded-settings own) (coded-vector own) number slots r (now (told .entry)) (now (told .exit)) ⌝ }
 {
     let n = own.n as usize;
     let w = own.w as usize;
@@ -104,7 +124,9 @@ pub fn table_of(own: Coded, number: usize, slots: [Slot; MOST_COLUMNS]) -> Table
     while i < n {
         let slot = slots[i];
         let row = slot_row(own, i + 1 == number, slot);
-        filling::put_row(&mut table, i, &row, n, w);
+        let values = row.values;
+        filling::put_row(&mut table, i, &values, n, w);
+        told[i] = row.told;
         i += 1;
     }
     table

@@ -8,6 +8,7 @@ use level::answer::Level;
 use record::Column;
 use record::Holdings;
 use record::Outcome;
+use repair::Repaired;
 
 #[no_mangle]
 pub extern "C" fn sajowemi_open(
@@ -53,7 +54,7 @@ pub extern "C" fn sajowemi_close(column: Column) -> Outcome
 
 #[no_mangle]
 pub extern "C" fn sajowemi_result(column: Column) -> Holdings
-    ensures { λ r. ⌜ Result-says column (r .answer) (r .values) (r .confidences) ⌝ }
+    ensures { λ r. ⌜ Result-says column r ⌝ }
 {
     column::result(column)
 }
@@ -86,8 +87,8 @@ pub extern "C" fn sajowemi_repair(
     vector: &[u8],
     checks: &[u8],
     output: &mut [u8],
-) -> u32
-    ensures { λ r. ⌜ Repair-says n t w (now (vector .entry)) (now (checks .entry)) r (now (output .entry)) (now (output .exit)) ⌝ }
+) -> Repaired
+    ensures { λ r. ⌜ Repair-says n t w (now (vector .entry)) (now (checks .entry)) (r .answer) (r .changed) (now (output .entry)) (now (output .exit)) ⌝ }
 {
     repair::repair(n, t, w, vector, checks, output)
 }

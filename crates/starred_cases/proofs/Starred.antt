@@ -56,12 +56,13 @@ checks-case n t vs cs e = checks-quick (settings n t 1) (single vs) (single cs) 
 
 -- checks that are those of the repaired vector
 repaired-case :
-    (n t : ℕ) (vs cs us : List ℕ) → settings-refusal (settings n t 1) ≡ 0 → is-vector (settings n t 1) (single vs) ≡ true →
+    (n t : ℕ) (vs cs us : List ℕ) (m : ℕ) → settings-refusal (settings n t 1) ≡ 0 → is-vector (settings n t 1) (single vs) ≡ true →
     is-vector (settings n t 1) (single us) ≡ true → quick-checks (settings n t 1) (single us) (single cs) ≡ true →
-    differ-values (single vs) (single us) ≤ settings n t 1 .t → Holds (repaired-is n t vs cs us)
+    differ-values (single vs) (single us) ≡ m → m ≤ settings n t 1 .t → Holds (repaired-is n t vs cs us m)
 unfolding Holds Repairs
-repaired-case n t vs cs us r v u e d =
-    repairs (settings n t 1) (single vs) (single us) (single cs) r v u (checks-quick (settings n t 1) (single us) (single cs) ∙ e) d
+repaired-case n t vs cs us m r v u e d l =
+    let repair = repairs (settings n t 1) (single vs) (single us) (single cs) r v u (checks-quick (settings n t 1) (single us) (single cs) ∙ e) (rw d l) in
+    (single cs, repair .0, repair .1 ∙ d)
 
 -- checks that repair nothing
 none-case :
@@ -109,7 +110,7 @@ starred-cases = (
         checks-case _ _ _ _ refl,
         (
           checks-case _ _ _ _ refl,
-          (repaired-case _ _ _ _ _ refl refl refl refl (omega arith), (repaired-case _ _ _ _ _ refl refl refl refl (omega arith), (none-case _ _ _ _ refl refl, (opens-case, (refused-case, (alone-case, (level-case _ _ _ _ _ refl refl refl, (level-case _ _ _ _ _ refl refl refl, tt)))))))),
+          (repaired-case _ _ _ _ _ _ refl refl refl refl refl (omega arith), (repaired-case _ _ _ _ _ _ refl refl refl refl refl (omega arith), (repaired-case _ _ _ _ _ _ refl refl refl refl refl (omega arith), (repaired-case _ _ _ _ _ _ refl refl refl refl refl (omega arith), (none-case _ _ _ _ refl refl, (opens-case, (refused-case, (alone-case, (level-case _ _ _ _ _ refl refl refl, (level-case _ _ _ _ _ refl refl refl, tt)))))))))),
         ),
       ),
     ),

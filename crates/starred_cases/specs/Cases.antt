@@ -9,7 +9,7 @@ use Rattle.field.specs.Field.{times}
 use Rattle.code.specs.Settings.{settings}
 use Rattle.code.specs.Polynomial.{generator}
 use Rattle.code.specs.Vector.{has-checks}
-use Rattle.code.specs.Repair.{Repaired, No-repair}
+use Rattle.code.specs.Repair.{Repaired, changed-places, No-repair}
 use Rattle.grading.specs.Held.{Held, held-as}
 use Rattle.record.specs.Record.{Rec, opened}
 use Rattle.record.specs.Refusal.{open-refusal, ask-refusal}
@@ -34,7 +34,7 @@ pub data Case : Type 0 where
   product : (a b result : ℕ) → Case
   generator-is : (roots : ℕ) → (coefficients : List ℕ) → Case
   checks-are : (n t : ℕ) → (vector checks : List ℕ) → Case
-  repaired-is : (n t : ℕ) → (vector checks repaired : List ℕ) → Case
+  repaired-is : (n t : ℕ) → (vector checks repaired : List ℕ) → (changed : ℕ) → Case
   none-near : (n t : ℕ) → (vector checks : List ℕ) → Case
   opening : (n t number : ℕ) → (own : List ℕ) → (answer : ℕ) → Case
   alone-ends : (own : List ℕ) → (confidence : ℕ) → Case
@@ -53,7 +53,8 @@ unfoldable pub Holds : Case → Type 0
 Holds (product a b c) = times a b ≡ c
 Holds (generator-is m g) = generator m ≡ g
 Holds (checks-are n t vs cs) = has-checks (settings n t 1) (single vs) (single cs) ≡ true
-Holds (repaired-is n t vs cs us) = Repaired (settings n t 1) (single vs) (single cs) (single us)
+Holds (repaired-is n t vs cs us m) =
+    (ds : List (List ℕ)) × Repaired (settings n t 1) (single vs) (single cs) (single us) ds × (changed-places (single vs) (single cs) (single us) ds ≡ m)
 Holds (none-near n t vs cs) = No-repair (settings n t 1) (single vs) (single cs)
 Holds (opening n t k v a) = open-refusal (settings n t (length v)) k v ≡ a
 Holds (alone-ends v c) = (run : ℕ) → Finishes run v × ((calls : List Call) (last : Rec) → Alone run v calls last → getD (last .found .held) 0 none-held ≡ held-as v c)
@@ -68,8 +69,11 @@ starred =
     ∷ checks-are 4 1 (241 ∷ 86 ∷ 35 ∷ 35 ∷ []) (39 ∷ 78 ∷ [])
     ∷ checks-are 4 1 (241 ∷ 86 ∷ 35 ∷ 40 ∷ []) (82 ∷ 30 ∷ [])
     ∷ checks-are 4 1 (241 ∷ 86 ∷ 35 ∷ 0 ∷ []) (8 ∷ 182 ∷ [])
-    ∷ repaired-is 4 1 (241 ∷ 86 ∷ 35 ∷ 35 ∷ []) (0 ∷ 136 ∷ []) (241 ∷ 86 ∷ 129 ∷ 35 ∷ [])
-    ∷ repaired-is 4 1 (241 ∷ 86 ∷ 35 ∷ 35 ∷ []) (22 ∷ 61 ∷ []) (241 ∷ 49 ∷ 35 ∷ 35 ∷ [])
+    ∷ repaired-is 4 1 (241 ∷ 86 ∷ 35 ∷ 35 ∷ []) (0 ∷ 136 ∷ []) (241 ∷ 86 ∷ 129 ∷ 35 ∷ []) 1
+    -- what columns 2, 3 and 4 send to column 1 in round two: with its own row, 0, 0, 1, 1
+    ∷ repaired-is 4 1 (241 ∷ 86 ∷ 35 ∷ 35 ∷ []) (39 ∷ 78 ∷ []) (241 ∷ 86 ∷ 35 ∷ 35 ∷ []) 0
+    ∷ repaired-is 4 1 (241 ∷ 86 ∷ 35 ∷ 35 ∷ []) (82 ∷ 30 ∷ []) (241 ∷ 86 ∷ 35 ∷ 40 ∷ []) 1
+    ∷ repaired-is 4 1 (241 ∷ 86 ∷ 35 ∷ 35 ∷ []) (22 ∷ 61 ∷ []) (241 ∷ 49 ∷ 35 ∷ 35 ∷ []) 1
     ∷ none-near 4 1 (241 ∷ 86 ∷ 35 ∷ 35 ∷ []) (22 ∷ 77 ∷ [])
     ∷ opening 4 1 1 (7 ∷ []) 0
     ∷ opening 3 1 1 (7 ∷ []) 2

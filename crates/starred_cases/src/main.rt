@@ -32,13 +32,15 @@ fn checks_of(vector: [u8; 4]) {
 fn repaired_by(checks: [u8; 2]) {
     let vector = [241u8, 86, 35, 35];
     let mut output = [0u8; 4];
-    let answer = repair::repair(4, 1, 1, &vector, &checks, &mut output);
+    let repaired = repair::repair(4, 1, 1, &vector, &checks, &mut output);
     io::write_all(STDOUT_FILENO, b"repaired");
-    if answer == 256 {
+    if repaired.answer == 256 {
         io::write_all(STDOUT_FILENO, b" none\n");
-        return;
+    } else {
+        print_bytes(&output);
     }
-    print_bytes(&output);
+    io::write_all(STDOUT_FILENO, b"changed ");
+    print_answer(repaired.changed);
 }
 
 fn opened(n: u32) {
@@ -117,6 +119,8 @@ fn main() {
     checks_of([241, 86, 35, 40]);
     checks_of([241, 86, 35, 0]);
     repaired_by([0, 136]);
+    repaired_by([39, 78]);
+    repaired_by([82, 30]);
     repaired_by([22, 61]);
     repaired_by([22, 77]);
     opened(4);

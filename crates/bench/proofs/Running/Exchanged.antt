@@ -65,8 +65,8 @@ closed-round : (m : ℕ) (r q : Rec) → 1 ≤ m → m ≤ 3 → Closed m r q �
 unfolding Closed next-round
 closed-round zero r q l h c = absurd (omega arith)
 closed-round (suc zero) r q l h c = ap (λ (z : Rec). z .round) c
-closed-round (suc (suc zero)) r q l h c = ap (λ (z : Rec). z .round) (c .2)
-closed-round (suc (suc (suc zero))) r q l h c = ap (λ (z : Rec). z .round) (c .2)
+closed-round (suc (suc zero)) r q l h c = ap (λ (z : Rec). z .round) (c .3)
+closed-round (suc (suc (suc zero))) r q l h c = ap (λ (z : Rec). z .round) (c .3)
 closed-round (suc (suc (suc (suc m)))) r q l h c = absurd (omega arith)
 
 -- a good column's record in a round

@@ -23,7 +23,7 @@ column-past =
       who = record { n = 0; t = 0; w = 0; number = 0; run = 0; own = [] };
       slots = [];
       early = [];
-      found = record { heard = []; agreed = []; values = []; confidences = [] };
+      found = record { heard = []; agreed = []; values = []; confidences = []; «told_two» = []; «told_three» = [] };
       round = 0;
       refused = 0;
     }

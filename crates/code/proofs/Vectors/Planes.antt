@@ -1,6 +1,7 @@
 -- Vectors of values and their byte planes. What the tests of a vector and of its check values say is given as records, both
 -- ways. Values are equal where all their planes are, so check values are unique because each plane's are; and a plane of two
--- vectors differs in no more places than the vectors in values, so check values repair what differs in at most t. Assumes nothing.
+-- vectors differs in no more places than the vectors in values, so check values repair what differs in at most t. A repair is unique,
+-- because each plane's codeword is. Assumes nothing.
 use mathlib.Core.Path.{_≡_, refl, sym, _∙_, ap, ap₂}
 use mathlib.Core.Bool.{Bool, true, _&&_}
 use mathlib.Core.List.{List, [], _∷_}
@@ -11,14 +12,15 @@ use lib.Dec.{eqb}
 use lib.ListN.{length, getD, drop}
 use lib.Seq.{ext-getD}
 use borrow.Author.Tests.{eqb-true, eq-eqb}
-use Rattle.arrays.proofs.Bool.{and-split, count-le}
+use Rattle.arrays.proofs.Bool.{and-split, count-le, count-le-one}
 use Rattle.code.specs.Settings.{Settings, settings-refusal, check-count, value-size}
 use Rattle.code.specs.Plane.{is-codeword, byte-list, differ}
 use Rattle.code.specs.Vector.{plane, each-long, is-vector, are-checks, planes-from, has-checks, same, differ-values}
-use Rattle.code.specs.Promise.{Repairs}
+use Rattle.code.specs.Repair.{Repaired, changed-places, No-repair}
+use Rattle.code.specs.Promise.{One-near, One-repair, Repairs}
 use Rattle.arrays.proofs.Bytes.{Bytes, byte-at}
 use Rattle.code.proofs.Tests.{bytes-of, bytes-back, all-from, all-below-at, all-below-back}
-use Rattle.code.proofs.Codewords.Near.{differ-self, plane-unique}
+use Rattle.code.proofs.Codewords.Near.{differ-self, one-near, plane-unique}
 
 -- values of so many bytes
 abbrev pub Values : (size : ℕ) → List (List ℕ) → Type 0
@@ -53,6 +55,17 @@ pub vector-back : (s : Settings) (vs : List (List ℕ)) → Vector s vs → is-v
 unfolding is-vector
 vector-back s vs v = and-intro (eq-eqb _ _ (v .many)) (values-back (value-size s) vs (v .values))
 
+-- check values
+pub checks-of : (s : Settings) (cs : List (List ℕ)) → are-checks s cs ≡ true → (length cs ≡ check-count s) × Values (value-size s) cs
+unfolding are-checks
+checks-of s cs e =
+    let parts = and-split (eqb (length cs) (check-count s)) (each-long (value-size s) cs) e in
+    (eqb-true _ _ (parts .0), values-of (value-size s) cs (parts .1))
+
+pub checks-back : (s : Settings) (cs : List (List ℕ)) → length cs ≡ check-count s → Values (value-size s) cs → are-checks s cs ≡ true
+unfolding are-checks
+checks-back s cs e v = and-intro (eq-eqb _ _ e) (values-back (value-size s) cs v)
+
 -- planes
 pub plane-length : (p : ℕ) (vs : List (List ℕ)) → length (plane p vs) ≡ length vs
 unfolding plane
@@ -86,20 +99,20 @@ plane-tests zero i s vs cs = refl
 plane-tests (suc n) i s vs cs = ap (λ (t : Bool). is-codeword s (plane i vs) (plane i cs) && t) (plane-tests n (suc i) s vs cs)
 
 pub checked-of : (s : Settings) (vs cs : List (List ℕ)) → has-checks s vs cs ≡ true → Checked s vs cs
-unfolding has-checks are-checks
+unfolding has-checks
 checked-of s vs cs e =
-    let parts = and-split (eqb (length cs) (check-count s) && each-long (value-size s) cs) (planes-from (value-size s) 0 s vs cs) e in
-    let checks = and-split (eqb (length cs) (check-count s)) (each-long (value-size s) cs) (parts .0) in
+    let parts = and-split (are-checks s cs) (planes-from (value-size s) 0 s vs cs) e in
+    let checks = checks-of s cs (parts .0) in
     record {
-      many = eqb-true _ _ (checks .0);
-      values = values-of (value-size s) cs (checks .1);
+      many = checks .0;
+      values = checks .1;
       planes = all-below-at (value-size s) (λ p. is-codeword s (plane p vs) (plane p cs)) (sym (plane-tests (value-size s) 0 s vs cs) ∙ parts .1);
     }
 
 pub checked-back : (s : Settings) (vs cs : List (List ℕ)) → Checked s vs cs → has-checks s vs cs ≡ true
-unfolding has-checks are-checks
+unfolding has-checks
 checked-back s vs cs c =
-    and-intro (and-intro (eq-eqb _ _ (c .many)) (values-back (value-size s) cs (c .values)))
+    and-intro (checks-back s cs (c .many) (c .values))
     (plane-tests (value-size s) 0 s vs cs ∙ all-below-back (value-size s) (λ p. is-codeword s (plane p vs) (plane p cs)) (c .planes))
 
 -- a vector has at most one list of check values
@@ -112,6 +125,11 @@ checks-unique s vs cs ds r e f =
     (λ p h. plane-unique s (plane p vs) (plane p cs) (plane p ds) r (c .planes p h) (d .planes p h))
 
 -- differences
+pub same-self : (a : List ℕ) → same a a ≡ true
+unfolding same
+same-self [] = refl
+same-self (x ∷ xs) = and-intro (eq-eqb x x refl) (same-self xs)
+
 pub same-equal : (a b : List ℕ) → same a b ≡ true → a ≡ b
 unfolding same
 same-equal [] [] e = refl
@@ -130,11 +148,53 @@ plane-differ p (v ∷ vs) (u ∷ us) =
       plane-differ p vs us,
     )
 
+pub differ-values-self : (vs : List (List ℕ)) → differ-values vs vs ≡ 0
+unfolding differ-values
+differ-values-self [] = refl
+differ-values-self (v ∷ vs) = rw (same-self v) (omega (arith, differ-values-self vs))
+
+pub differ-values-le : (vs us : List (List ℕ)) → differ-values vs us ≤ length vs
+unfolding differ-values
+differ-values-le [] us = omega arith
+differ-values-le (v ∷ vs) [] = omega arith
+differ-values-le (v ∷ vs) (u ∷ us) = omega (arith, count-le-one (same v u), differ-values-le vs us)
+
 pub repairs : Repairs
-unfolding Repairs
+unfolding Repairs changed-places
 repairs s vs us cs r e f c d =
-    let checked = checked-of s us cs c in
-    record {
-      vector = f;
-      planes = λ p h. (plane p cs, record { codeword = checked .planes p h; within = omega (arith, plane-differ p vs us, differ-self (plane p cs)) });
-    }
+    let checked = checked-of s us cs c in (
+      record {
+        vector = f;
+        checks = checks-back s cs (checked .many) (checked .values);
+        planes = λ p h. record { codeword = checked .planes p h; within = omega (arith, plane-differ p vs us, differ-self (plane p cs)) };
+      },
+      omega (arith, differ-values-self cs),
+    )
+
+-- repair has one answer
+pub one-repair : One-repair
+unfolding One-repair One-near
+one-repair s vs cs us ds xs ys fine e f a b = (
+  planes-same (value-size s) us xs (u .many ∙ sym (x .many)) (u .values) (x .values) (λ p h. near p h .0),
+  planes-same (value-size s) ds ys (d .0 ∙ sym (y .0)) (d .1) (y .1) (λ p h. near p h .1),
+)
+  where
+    u : Vector s us
+    u = vector-of s us (a .vector)
+
+    x : Vector s xs
+    x = vector-of s xs (b .vector)
+
+    d : (length ds ≡ check-count s) × Values (value-size s) ds
+    d = checks-of s ds (a .checks)
+
+    y : (length ys ≡ check-count s) × Values (value-size s) ys
+    y = checks-of s ys (b .checks)
+
+    near : (p : ℕ) → p < value-size s → (plane p us ≡ plane p xs) × (plane p ds ≡ plane p ys)
+    near p h =
+        one-near s (plane p vs) (plane p cs) (plane p us) (plane p ds) (plane p xs) (plane p ys) fine (plane-length p vs ∙ e) (plane-length p cs ∙ f)
+        (a .planes p h) (b .planes p h)
+
+pub repaired-or-none : (s : Settings) (vs cs us ds : List (List ℕ)) → Repaired s vs cs us ds → No-repair s vs cs → ⊥
+repaired-or-none s vs cs us ds a b = b .none-near (plane (b .at-plane) us) (plane (b .at-plane) ds) (a .planes (b .at-plane) (b .inside))

@@ -27,7 +27,7 @@ unfoldable pub step-answer : {c d : Column} {x : Call} → Built-step c x d → 
 step-answer (takes c d slot a frame says) = a
 step-answer (sends c a buffer buffer-now says) = a
 step-answer (closes c d a says) = a
-step-answer (asks c a values confidences says) = a
+step-answer (asks c h says) = h .answer
 
 unfoldable pub run-answers : {c d : Column} {xs : List Call} → Built-run c xs d → List ℕ
 run-answers (no-step c) = []
@@ -38,7 +38,7 @@ unfolding step-answer answer
 step-answered (takes c d slot a frame says) = says .answered
 step-answered (sends c a buffer buffer-now says) = says .answered
 step-answered (closes c d a says) = says .answered
-step-answered (asks c a values confidences says) = says .answered
+step-answered (asks c h says) = says .answered
 
 module _ (s : Settings) (k run : ℕ) (v : Value) (o : Opens s k v) (cl : Claims) where
   answers-follow :

@@ -66,11 +66,11 @@ unfolding blanks
 blanks-bytes s j h = subst Bytes (sym (getD-replicate (s .n) j (blank s) [] h)) (blank-bytes s)
 
 -- a row of a table
-row-bytes : (s : Settings) (vs : Vector) (f : Option (List ℕ)) (row : Vector) → Row s vs f row → Byte-values (s .n) row
+row-bytes : (s : Settings) (vs : Vector) (f : Option (List ℕ)) (row : Vector) (m : ℕ) → Row s vs f row m → Byte-values (s .n) row
 unfolding Row
-row-bytes s vs none row r = rw r (blanks-bytes s)
-row-bytes s vs (some x) row (inl r) = vector-bytes s row (r .vector)
-row-bytes s vs (some x) row (inr r) = rw (r .1) (blanks-bytes s)
+row-bytes s vs none row m r = rw (r .0) (blanks-bytes s)
+row-bytes s vs (some x) row m (inl r) = vector-bytes s row (r .1 .vector)
+row-bytes s vs (some x) row m (inr r) = rw (r .1) (blanks-bytes s)
 
 -- operands of bytes
 abbrev pub Byte-operands : List (Option (List ℕ)) → Type 0
@@ -96,14 +96,15 @@ heard-bytes r own operands j h =
     go false (some x) g = operands (1 + j) x g
 
 agreed-bytes :
-    (r : Rec) (rows : Rows) → 1 ≤ r .who .number → Byte-values (r .who .settings .n) (r .found .heard) → Table r (r .found .heard) rows →
+    (r : Rec) (rows : Rows) (told : List ℕ) → 1 ≤ r .who .number → Byte-values (r .who .settings .n) (r .found .heard) → Table r (r .found .heard) rows told →
     Byte-values (r .who .settings .n) (agreed-vector (r .who .settings) rows)
 unfolding agreed-vector
-agreed-bytes r rows low b t j h =
+agreed-bytes r rows told low b t j h =
     subst Bytes (sym (entries-at (r .who .settings .n) 0 j (agreed-at (r .who .settings) rows) [] h))
     (agreed-is Bytes (r .who .settings) rows (0 + j) (blank-bytes (r .who .settings))
     (λ i l.
-    table-rows (λ k row. Byte-values (r .who .settings .n) row) r (r .found .heard) rows low t b (λ k row m d x e. row-bytes (r .who .settings) (r .found .heard) _ row x) i
+    table-rows (λ k row m. Byte-values (r .who .settings .n) row) r (r .found .heard) rows told low t b
+    (λ k row m l d x. row-bytes (r .who .settings) (r .found .heard) _ row m x) i
     (rw (t .many) at l) (0 + j) (omega arith)))
 
 -- calls with frames of bytes
@@ -181,7 +182,7 @@ module _ (s : Settings) (k run : ℕ) (v : Value) (o : Opens s k v) where
       agreed : (2 ≡ r .round) ⊎ (2 < r .round) → Byte-values (s .n) (q .found .agreed)
       agreed (inl e) =
           let t = x .two (sym e) in
-          rw (t .2) (by-settings (agreed-vector (r .who .settings) (t .0)) (agreed-bytes r (t .0) (rw (p .number) (o .low)) (rw (p .settings) (b .heard (omega (arith, e)))) (t .1)))
+          rw (t .2) (by-settings (agreed-vector (r .who .settings) (t .0)) (agreed-bytes r (t .0) (q .found .told-two) (rw (p .number) (o .low)) (rw (p .settings) (b .heard (omega (arith, e)))) (t .1)))
       agreed (inr e) = rw (x .agreed-kept e) (b .agreed e)
 
   pub step-bytes : (c : Call) (r q : Rec) → Proper s k run v r → Byte-record s r → Byte-call c → Step r q c → Byte-record s q

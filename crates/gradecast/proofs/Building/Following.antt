@@ -2,17 +2,18 @@
 -- promise of the call holds, and which reads as the record that the call leaves. A frame taken is put into its slot, a round closed is
 -- written into the arrays, a refusal leaves what the promise says of it. A call that sends needs that there is a frame to send, which
 -- is so wherever V and Y are bytes. Assumes nothing.
-use mathlib.Core.Path.{_≡_, refl, sym, _∙_, ap, ap₂, subst}
+use mathlib.Core.Path.{_≡_, refl, sym, _∙_, ap, subst}
 use mathlib.Core.Bool.{Bool, true, false, cond}
 use mathlib.Core.List.{List, [], _∷_}
 use Prim.Native.Nat.{ℕ, zero, suc, _+_, _<_, _≤_}
 use native.Mathlib.Omega.{arith}
 use lib.Dec.{eqb, leb}
-use lib.ListN.{length, replicate, length-replicate}
+use lib.ListN.{length, take, replicate, length-replicate}
 use borrow.Author.Tests.{eqb-true, eqb-false}
-use Rattle.arrays.specs.Array.{in-front}
+use Rattle.arrays.specs.Array.{in-front, padded}
+use Rattle.arrays.proofs.Front.{front-value}
 use Rattle.code.specs.Settings.{Settings, settings, value-size}
-use Rattle.code.specs.Size.{most-columns, vector-room}
+use Rattle.code.specs.Size.{most-columns}
 use Rattle.grading.specs.Value.{Value, Vector, Rows, blank, is-blank}
 use Rattle.grading.specs.Held.{held-as}
 use Rattle.grading.specs.Count.{most, found, held-of, held-at, held-list}
@@ -24,13 +25,14 @@ use Rattle.record.specs.Refusal.{take-refusal, send-refusal, close-refusal, ask
 use Rattle.rounds.specs.Exchange.{Table, Closed}
 use Rattle.column.specs.Call.{Call, taking, sending, closing, asking, After-close, Leads, Run, no-call, one-call, Passes, here, later, Frame-of}
 use Rattle.record.specs.View.{settings-of, who-in, found-in, view}
-use Rattle.record.specs.Stored.{with-slot, with-count, after-refusal, found-now, one-on}
+use Rattle.record.specs.Stored.{no-holdings, with-slot, with-count, after-refusal, found-now, one-on}
 use Rattle.column.specs.Entry.{Take-says, Send-says, Close-says, Result-says}
 use Rattle.rounds.specs.Steps.Closing.{Finds}
 use Rattle.record.specs.declared.Findings.{Findings}
 use Rattle.record.specs.declared.Column.{Column}
+use Rattle.record.specs.declared.Holdings.{Holdings}
 use Rattle.record.proofs.Refusal.{Opens, close-record, close-round, ask-round}
-use Rattle.record.proofs.View.{found-heard, found-agreed, found-held}
+use Rattle.record.proofs.View.{found-heard, found-agreed, found-held, found-two}
 use Rattle.column.proofs.Taken.{take-reads}
 use Rattle.rounds.proofs.Rows.{Sized, table-sized}
 use Rattle.rounds.proofs.AfterRound.{Inside, inside, finds-of}
@@ -72,20 +74,27 @@ take-built c k bs stored = go (eqb (take-refusal (view c) k bs) 0) refl
     )
 
 -- asking
-pub result-built :
-    (c : Column) → Stored c → (values : List ℕ) × (confidences : List ℕ) × Result-says c (ask-refusal (view c)) values confidences
-unfolding view Stored
+pub result-built : (c : Column) → Stored c → (h : Holdings) × Result-says c h
+unfolding view Stored no-holdings
 result-built c stored = go (eqb (ask-refusal (view c)) 0) refl
   where
-    go : (q : Bool) → eqb (ask-refusal (view c)) 0 ≡ q → (values : List ℕ) × (confidences : List ℕ) × Result-says c (ask-refusal (view c)) values confidences
+    go : (q : Bool) → eqb (ask-refusal (view c)) 0 ≡ q → (h : Holdings) × Result-says c h
     go true f =
-        let e = eqb-true _ _ f in
-        (c .found .values, c .found .confidences, record { answered = refl; done = λ z. stored (ask-round (view c) e); refused = λ z. absurd (z e) })
-    go false f = (
-      replicate vector-room 0,
-      replicate most-columns 0,
-      record { answered = refl; done = λ z. absurd (eqb-false _ _ f z); refused = λ z. (refl, refl) },
-    )
+        let e = eqb-true _ _ f in (
+          record {
+            answer = ask-refusal (view c);
+            values = c .found .values;
+            confidences = c .found .confidences;
+            «told_two» = padded most-columns (view c .found .told-two);
+            «told_three» = padded most-columns (view c .found .told-three);
+          },
+          record { answered = refl; done = λ z. stored (ask-round (view c) e); two = λ z. refl; three = λ z. refl; refused = λ z. absurd (z e) },
+        )
+    go false f =
+        let h = eqb-false _ _ f in (
+          no-holdings (ask-refusal (view c)),
+          record { answered = refl; done = λ z. absurd (h z); two = λ z. absurd (h z); three = λ z. absurd (h z); refused = λ z. refl },
+        )
 
 -- sending
 send-built :
@@ -102,12 +111,12 @@ send-built c buffer frame = go (eqb (send-refusal (view c) (length buffer)) 0) r
 
 -- the values that a column ends with have the size of a value
 held-sized :
-    (r : Rec) (rows : Rows) → 1 ≤ r .who .number → Sized (r .who .settings) (r .found .agreed) → Table r (r .found .agreed) rows → (j : ℕ) →
+    (r : Rec) (rows : Rows) (told : List ℕ) → 1 ≤ r .who .number → Sized (r .who .settings) (r .found .agreed) → Table r (r .found .agreed) rows told → (j : ℕ) →
     j < r .who .settings .n → length (held-at (r .who .settings) rows j .value) ≡ value-size (r .who .settings)
 unfolding held-at held-of held-as
-held-sized r rows low y t j h =
+held-sized r rows told low y t j h =
     go (is-blank m) (leb _ (found j m rows)) (leb _ (found j m rows))
-    (most-is (λ u. length u ≡ value-size s) s j rows (blank-size s) (λ i l. table-sized r (r .found .agreed) rows low y t i (rw (t .many) at l) .each j h))
+    (most-is (λ u. length u ≡ value-size s) s j rows (blank-size s) (λ i l. table-sized r (r .found .agreed) rows told low y t i (rw (t .many) at l) .each j h))
   where
     s : Settings
     s = r .who .settings
@@ -141,6 +150,11 @@ found-stored c f x e =
       reads = sym (found-held (settings-of (c .who)) (c .round + 1) f (omega arith));
     }
 
+-- what a table told is read again
+told-again : (n : ℕ) (told : List ℕ) → length told ≡ n → take n (padded most-columns told) ≡ told
+unfolding padded
+told-again n told e = front-value told (replicate most-columns 0) n e
+
 -- closing, of a record of an opened column's list
 module _ (s : Settings) (k run : ℕ) (v : Value) (o : Opens s k v) where
   closed-built :
@@ -151,18 +165,19 @@ module _ (s : Settings) (k run : ℕ) (v : Value) (o : Opens s k v) where
   closed-built (suc zero) c q i low high e p w x =
       let sized = sized-by (q .found .heard) (p .settings) (w .heard (omega (arith, e, ap (λ (z : Rec). z .round) x))) in
       let stored = stores-sized (settings-of (c .who)) _ (rw (ap (λ (z : Rec). z .found .heard) x) at sized) in
-      (_, finds-of c i 1 _ _ e (ap (λ (vs : Vector). found-as vs [] []) (stored .reads)) refl refl)
+      (_, finds-of c i 1 _ _ e (ap (λ (vs : Vector). found-as vs [] [] [] []) (stored .reads)) refl refl)
   closed-built (suc (suc zero)) c q i low high e p w x =
-      let sized = sized-by (q .found .agreed) (p .settings) (w .agreed (omega (arith, e, ap (λ (z : Rec). z .round) (x .2)))) in
+      let sized = sized-by (q .found .agreed) (p .settings) (w .agreed (omega (arith, e, ap (λ (z : Rec). z .round) (x .3)))) in
       let heard = found-heard (settings-of (c .who)) (c .round) (c .found) (omega arith) in
-      let stored = stores-sized (settings-of (c .who)) _ (rw (ap (λ (z : Rec). z .found .agreed) (x .2)) at sized) in
-      (_, finds-of c i 2 _ _ e (ap₂ (λ (vs ys : Vector). found-as vs ys []) (sym heard) (stored .reads)) (x .0, x .1, refl) refl)
+      let stored = stores-sized (settings-of (c .who)) _ (rw (ap (λ (z : Rec). z .found .agreed) (x .3)) at sized) in
+      (_, finds-of c i 2 _ _ e (cc (heard, stored .reads, told-again (c .who .n) (x .1) (x .2 .told-many))) (x .0, x .1, x .2, refl) refl)
   closed-built (suc (suc (suc zero))) c q i low high e p w x =
       let heard = found-heard (settings-of (c .who)) (c .round) (c .found) (omega arith) in
       let agreed = found-agreed (settings-of (c .who)) (c .round) (c .found) (omega arith) in
-      let sized = held-sized (view c) (x .0) (i .number-low) (sized-by (view c .found .agreed) (p .settings) (p .agreed (omega arith))) (x .1) in
+      let two = found-two (settings-of (c .who)) (c .round) (c .found) (omega arith) in
+      let sized = held-sized (view c) (x .0) (x .1) (i .number-low) (sized-by (view c .found .agreed) (p .settings) (p .agreed (omega arith))) (x .2) in
       let stored = stores-entries (settings-of (c .who)) (held-at (settings-of (c .who)) (x .0)) sized in
-      (_, finds-of c i 3 _ _ e (cc (heard, agreed, stored .reads)) (x .0, x .1, refl) refl)
+      (_, finds-of c i 3 _ _ e (cc (heard, agreed, stored .reads, two, told-again (c .who .n) (x .1) (x .2 .told-many))) (x .0, x .1, x .2, refl) refl)
   closed-built (suc (suc (suc (suc m)))) c q i low high e p w x = absurd (omega arith)
 
   close-built :
@@ -205,7 +220,7 @@ module _ (s : Settings) (k run : ℕ) (v : Value) (o : Opens s k v) where
   step-built closing c q p stored f l =
       let x = close-built c q p stored l in
       (x .0, closes c (x .0) _ (x .1), leads-unique s k run v o closing (view c) (view (x .0)) q p (x .1 .reads) l, x .2)
-  step-built asking c q p stored f l = let x = result-built c stored in (c, asks c _ (x .0) (x .1) (x .2), sym l, stored)
+  step-built asking c q p stored f l = let x = result-built c stored in (c, asks c (x .0) (x .1), sym l, stored)
 
   -- a list of them
   pub run-built :

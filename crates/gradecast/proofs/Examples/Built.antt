@@ -1,19 +1,21 @@
 -- The conditions of `Built-gradecast` can be met: the exchange with refusals, as built. Its lists meet the conditions as defined, and
 -- its values and frames are bytes. So there are three columns with a record of the program's own at every step, every call of which
--- answers as it is listed, and what `result` answers at the end agrees. Assumes nothing.
-use mathlib.Core.Path.{_≡_, _∙_, subst}
+-- answers as it is listed, and what `result` answers at the end agrees, and tells few places of each. Assumes nothing.
+use mathlib.Core.Path.{_≡_, _∙_, ap, subst}
 use mathlib.Core.List.{List, map}
 use Prim.Native.Nat.{ℕ}
 use Rattle.record.specs.View.{view}
+use Rattle.record.specs.declared.Holdings.{Holdings}
+use Rattle.grading.specs.Promise.{member, unlisted}
 use Rattle.column.specs.Entry.{Result-says}
-use Rattle.gradecast.specs.Promise.{Among, Agree}
-use Rattle.gradecast.specs.Built.{Built, Built-conditions, defined, answered, Built-gradecast}
-use Rattle.gradecast.proofs.Built.{built-gradecast}
+use Rattle.gradecast.specs.Promise.{Among, numbers, bad-count, Few-told, Agree}
+use Rattle.gradecast.specs.Built.{Built, Built-conditions, defined, answered, Built-gradecast, Built-told}
+use Rattle.gradecast.proofs.Built.{built-gradecast, built-told}
 use Rattle.gradecast.proofs.Building.Following.{result-built}
 use Rattle.gradecast.proofs.Building.Group.{built-group, group-same, group-each, group-conditions}
 use Rattle.gradecast.proofs.Building.Answers.{all-answers, answers-listed}
-use Rattle.gradecast.proofs.Testing.Conditions.{plays}
-use Rattle.gradecast.proofs.Examples.Exchange.{four}
+use Rattle.gradecast.proofs.Testing.Conditions.{good, plays}
+use Rattle.gradecast.proofs.Examples.Exchange.{four, script}
 use Rattle.gradecast.proofs.Examples.Rough.{says-of, rough-lists, rough-scripts}
 use Rattle.gradecast.proofs.Examples.Defined.{goods, rough-met, rough-answers}
 
@@ -35,52 +37,46 @@ unfolding columns defined view
 columns-finished b i =
     rough-met .finished (defined b) (group-each four 7 (goods rough-scripts) (rough-met .conditions) (rough-met .bytes) b i .1)
 
+-- column 4 is the only bad one
+one-bad : bad-count four (map defined columns) ≡ 1
+unfolding bad-count numbers goods good rough-scripts script unlisted member
+one-bad = ap (bad-count four) columns-same
+
 -- each has a result to answer
-record Answers (b : Built) : Type 0 where
-  answer : ℕ
-  values : List ℕ
-  confidences : List ℕ
-  says : Result-says (b .last) answer values confidences
-
-columns-answer : (b : Built) → Among b columns → Answers b
+columns-answer : (b : Built) → Among b columns → (h : Holdings) × Result-says (b .last) h
 unfolding columns
-columns-answer b i =
-    let x = result-built (b .last) (group-each four 7 (goods rough-scripts) (rough-met .conditions) (rough-met .bytes) b i .2) in
-    record { answer = _; values = x .0; confidences = x .1; says = x .2 }
+columns-answer b i = result-built (b .last) (group-each four 7 (goods rough-scripts) (rough-met .conditions) (rough-met .bytes) b i .2)
 
--- what two of them answer agrees about a third
+-- what two of them answer agrees about a third, of which the first was told few places
 pub record Answers-agree (g h x : Built) : Type 0 where
-  pub g-values : List ℕ
-  pub g-confidences : List ℕ
-  pub h-values : List ℕ
-  pub h-confidences : List ℕ
-  pub g-says : Result-says (g .last) 0 g-values g-confidences
-  pub h-says : Result-says (h .last) 0 h-values h-confidences
-  pub agree : Agree 4 (answered four g-values g-confidences) (answered four h-values h-confidences) (x .number) (x .own)
+  pub g-answer : Holdings
+  pub h-answer : Holdings
+  pub g-says : Result-says (g .last) g-answer
+  pub h-says : Result-says (h .last) h-answer
+  pub g-done : g-answer .answer ≡ 0
+  pub h-done : h-answer .answer ≡ 0
+  pub agree : Agree 4 (answered four g-answer) (answered four h-answer) (x .number) (x .own)
+  pub two : Few-told 1 (g-answer .«told_two») (x .number)
+  pub three : Few-told 1 (g-answer .«told_three») (x .number)
 
 pub results-agree : (g h x : Built) → Among g columns → Among h columns → Among x columns → Answers-agree g h x
-unfolding Built-gradecast
+unfolding Built-gradecast Built-told
 results-agree g h x i j l =
+    let a = columns-answer g i in
+    let b = columns-answer h j in
+    let both = built-gradecast four 7 columns g h x columns-conditions i j l (columns-finished g i) (columns-finished h j) (a .0) (b .0) (a .1) (b .1) in
+    let told = built-told four 7 columns g x columns-conditions i l (columns-finished g i) (a .0) (a .1) in
     record {
-      g-values = a .values;
-      g-confidences = a .confidences;
-      h-values = b .values;
-      h-confidences = b .confidences;
-      g-says = subst (λ (n : ℕ). Result-says (g .last) n (a .values) (a .confidences)) (both .0) (a .says);
-      h-says = subst (λ (n : ℕ). Result-says (h .last) n (b .values) (b .confidences)) (both .1) (b .says);
+      g-answer = a .0;
+      h-answer = b .0;
+      g-says = a .1;
+      h-says = b .1;
+      g-done = both .0;
+      h-done = both .1;
       agree = both .2;
+      two = subst (λ (m : ℕ). Few-told m (a .0 .«told_two») (x .number)) one-bad (told .1);
+      three = subst (λ (m : ℕ). Few-told m (a .0 .«told_three») (x .number)) one-bad (told .2);
     }
-  where
-    a : Answers g
-    a = columns-answer g i
-
-    b : Answers h
-    b = columns-answer h j
-
-    both : (a .answer ≡ 0) × (b .answer ≡ 0) × Agree 4 (answered four (a .values) (a .confidences)) (answered four (b .values) (b .confidences)) (x .number) (x .own)
-    both =
-        built-gradecast four 7 columns g h x columns-conditions i j l (columns-finished g i) (columns-finished h j) (a .answer) (b .answer) (a .values) (a .confidences)
-        (b .values) (b .confidences) (a .says) (b .says)
 
 -- every call of each answers as it is listed
 pub calls-answer : all-answers four 7 columns (columns-conditions .ran) ≡ map says-of rough-lists

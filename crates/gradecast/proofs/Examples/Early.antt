@@ -31,7 +31,7 @@ use Rattle.gradecast.proofs.Examples.Exchange.{vector, pick, heard, hea
 
 -- column 2 in round two with its V; its frame of that round; column 1 as opened, with that frame, and one round on
 unfoldable pub sender : Column
-sender = one-on (opened-column (identity 4 1 1 2 7 (86 ∷ []))) (found-now 1 no-findings (found-as (heard 2) [] []))
+sender = one-on (opened-column (identity 4 1 1 2 7 (86 ∷ []))) (found-now 1 no-findings (found-as (heard 2) [] [] [] []))
 
 unfoldable pub bytes : List ℕ
 bytes = frame 2 2 (heard-checks 2)
@@ -43,7 +43,7 @@ unfoldable pub reader-now : Column
 reader-now = with-slot reader 2 bytes
 
 unfoldable pub reader-next : Column
-reader-next = one-on reader-now (found-now 1 no-findings (found-as (vector 241 0 0 0) [] []))
+reader-next = one-on reader-now (found-now 1 no-findings (found-as (vector 241 0 0 0) [] [] [] []))
 
 -- each call says what its promise asks, and the reader awaits the frame
 pub early-calls :

@@ -32,12 +32,14 @@ heard k = pick k (vector 241 86 35 35) (vector 241 86 35 35) (vector 241 86 35 4
 unfoldable pub heard-checks : ℕ → List ℕ
 heard-checks k = pick k (39 ∷ 78 ∷ []) (39 ∷ 78 ∷ []) (82 ∷ 30 ∷ [])
 
--- an exchange: Y of each and its checks; what column 4 sends to each in a round, and the row that each makes of it in round two or three
+-- an exchange: Y of each and its checks; what column 4 sends to each in a round, the row that each makes of it in round two or three, and
+-- what that round tells each of all four
 pub record Exchange : Type 0 where
   pub agreed : ℕ → Vector
   pub checks : ℕ → List ℕ
   pub bad : (round reader : ℕ) → List ℕ
   pub bad-row : (round reader : ℕ) → Option Vector
+  pub told : (round reader : ℕ) → List ℕ
 
 -- a frame of run 7: any, one of a good column, and one of column 4 to a good column
 unfoldable pub frame : (round sender : ℕ) → (operand : List ℕ) → List ℕ

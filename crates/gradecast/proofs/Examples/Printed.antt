@@ -23,6 +23,8 @@ printed =
           some
           (cond (eqb m 2) (pick k (vector 241 49 35 35) (vector 241 86 129 35) (vector 157 86 35 40))
           (pick k (vector 241 86 0 35) (vector 241 86 0 35) (vector 241 86 35 82)));
+      -- columns 1 and 2 have the same V and Y, column 3 another at column 4, and what column 4 sends changes one place each time
+      told = λ m k. pick k (0 ∷ 0 ∷ 1 ∷ 1 ∷ []) (0 ∷ 0 ∷ 1 ∷ 1 ∷ []) (1 ∷ 1 ∷ 0 ∷ 1 ∷ []);
     }
 
 -- the calls: in each round the frames of the two other good columns, that of column 4, and that again

@@ -7,6 +7,7 @@ use mathlib.Core.Option.{none, some}
 use Prim.Native.Nat.{ℕ}
 use lib.Dec.{eqb}
 use Rattle.record.specs.Frame.{header}
+use Rattle.record.specs.Record.{told-missing, told-none}
 use Rattle.column.specs.Call.{Call, taking, sending, closing, asking}
 use Rattle.gradecast.proofs.Testing.Conditions.{Script}
 use Rattle.gradecast.proofs.Examples.Exchange.{vector, pick, Exchange, frame, sent, split, script}
@@ -24,6 +25,11 @@ rough =
           λ m k.
           cond (eqb m 2) (pick k none (some (vector 241 86 129 35)) (some (vector 157 86 35 40)))
           (pick k (some (vector 241 86 35 35)) (some (vector 241 86 0 35)) none);
+      -- in round three column 2's Y is the one that differs, and columns 1 and 3 have the same
+      told =
+          λ m k.
+          cond (eqb m 2) (pick k (0 ∷ 0 ∷ 1 ∷ told-none ∷ []) (0 ∷ 0 ∷ 1 ∷ 1 ∷ []) (1 ∷ 1 ∷ 0 ∷ 1 ∷ []))
+          (pick k (0 ∷ 1 ∷ 0 ∷ 1 ∷ []) (1 ∷ 0 ∷ 1 ∷ 1 ∷ []) (0 ∷ 1 ∷ 0 ∷ told-missing ∷ []));
     }
 
 -- its lists, each call with what it answers: a refusal's number, or 0 where it is done

@@ -17,7 +17,7 @@ use Rattle.rounds.specs.Exchange.{heard-vector, Closed}
 use Rattle.column.specs.Call.{Call, taking, sending, closing, asking, after-take, Leads, Run, no-call, one-call, Passes, here, later}
 use Rattle.record.proofs.Refusal.{close-record, close-settings, record-number}
 use Rattle.column.proofs.Step.{close-refused, leads-closing}
-use Rattle.gradecast.proofs.Testing.Table.{table-of, table-test, table-tested}
+use Rattle.gradecast.proofs.Testing.Table.{table-of, told-by, table-test, table-tested}
 
 -- the rows of the tables of rounds two and three, by slot
 abbrev pub Claims : Type 0
@@ -26,11 +26,13 @@ Claims = (round slot : ℕ) → Option Vector
 -- the record after a round is closed with these tables, and whether they are its tables
 unfoldable pub closed-by : Claims → (round : ℕ) → Rec → Rec
 closed-by cl zero r = r
-closed-by cl (suc zero) r = next-round r (found-as (heard-vector r) [] [])
+closed-by cl (suc zero) r = next-round r (found-as (heard-vector r) [] [] [] [])
 closed-by cl (suc (suc zero)) r =
-    next-round r (found-as (r .found .heard) (agreed-vector (r .who .settings) (table-of r (r .found .heard) (cl 2))) [])
+    next-round r (found-as (r .found .heard) (agreed-vector (r .who .settings) (table-of r (r .found .heard) (cl 2))) [] (told-by r (r .found .heard) (cl 2)) [])
 closed-by cl (suc (suc (suc zero))) r =
-    next-round r (found-as (r .found .heard) (r .found .agreed) (held-list (r .who .settings) (table-of r (r .found .agreed) (cl 3))))
+    next-round r
+    (found-as (r .found .heard) (r .found .agreed) (held-list (r .who .settings) (table-of r (r .found .agreed) (cl 3))) (r .found .told-two)
+    (told-by r (r .found .agreed) (cl 3)))
 closed-by cl (suc (suc (suc (suc m)))) r = r
 
 unfoldable pub closed-test : Claims → (round : ℕ) → Rec → Bool
@@ -46,10 +48,10 @@ closed-tested cl zero r fine e = refl
 closed-tested cl (suc zero) r fine e = refl
 closed-tested cl (suc (suc zero)) r fine e =
     let number = record-number (r .who) (close-record r fine) in
-    (_, table-tested r (r .found .heard) (cl 2) (close-settings r fine) (number .0) (number .1) e, refl)
+    (_, _, table-tested r (r .found .heard) (cl 2) (close-settings r fine) (number .0) (number .1) e, refl)
 closed-tested cl (suc (suc (suc zero))) r fine e =
     let number = record-number (r .who) (close-record r fine) in
-    (_, table-tested r (r .found .agreed) (cl 3) (close-settings r fine) (number .0) (number .1) e, refl)
+    (_, _, table-tested r (r .found .agreed) (cl 3) (close-settings r fine) (number .0) (number .1) e, refl)
 closed-tested cl (suc (suc (suc (suc m)))) r fine e = refl
 
 -- a call: the record after it, the test, and what it answers

@@ -1,5 +1,5 @@
 -- `level` meets its contract: the lines of the refusals in their order, and then the middle of the heights left. Assumes nothing.
-use mathlib.Core.Path.{refl, sym, _∙_}
+use mathlib.Core.Path.{_≡_, refl, sym, _∙_}
 use native.Mathlib.Omega.{arith}
 use borrow.Author.Needs.{needs}
 use mir.Facts.{toZ-ofZ}
@@ -7,7 +7,7 @@ use Rattle.code.specs.Settings.{settings}
 use Rattle.code.proofs.ValidSettings.{Sizes}
 use Rattle.record.specs.Record.{who-as}
 use Rattle.record.specs.View.{settings-of, who-in, view}
-use Rattle.column.specs.Entry.{Result-says}
+use Rattle.record.specs.Refusal.{ask-refusal}
 use Rattle.record.specs.declared.Column.{Column}
 use Rattle.level.proofs.Integers.{stored}
 use Rattle.level.proofs.Asking.{asked-refused, width-refused, asked-sizes, says-refused, Sorted-heights, sorted-heights, few-refused, says-level}
@@ -26,20 +26,20 @@ module _ (c : tie.Else1) where
   column : Column
   column = c .before .before .before .args .column
 
-  asked : Result-says column 0 (c .before .before .result .result .values) (c .before .before .result .result .confidences)
+  asked : ask-refusal (view column) ≡ 0
   unfolding column
-  asked = rw (c .if1 .left) at (c .before .before .result .ensures)
+  asked = sym (c .before .before .result .ensures .answered) ∙ c .if1 .left
 
   columns : Sizes (settings-of (column .who))
   unfolding column view who-in who-as
-  columns = asked-sizes (view column) (sym (asked .answered))
+  columns = asked-sizes (view column) asked
 
 returns-2 : tie.Need-returns-2
 unfolding column view who-in who-as settings-of settings
 returns-2 c =
     let d = c .before .before .before .before in
     let says = c .refused2 .ensures in
-    let width = width-refused (view (column d)) (sym (asked d .answered)) (c .before .if2 .taken) in
+    let width = width-refused (view (column d)) (asked d) (c .before .if2 .taken) in
     says-refused (column d) _ _ _ (says .0 ∙ sym width) (λ z. absurd (omega (arith, says .0))) (says .1) (says .2)
 
 -- a column of heights, and what `result` answered of it in hand
@@ -64,7 +64,10 @@ add-if3 c = omega (arith, columns (past-asking (in-hand (c .before))))
 -- the heights that `ascending` has sorted
 sorted : (c : tie.After-ascending) → Sorted-heights (column (past-asking (in-hand (c .before)))) (c .ascending .result .many) (c .ascending .result .heights)
 unfolding column
-sorted c = let d = in-hand (c .before) in sorted-heights _ _ _ _ _ (asked (past-asking d)) (d .if2 .left) (c .ascending .ensures)
+sorted c =
+    let d = in-hand (c .before) in
+    let e = past-asking d in
+    sorted-heights _ (e .before .before .result .result) _ _ (e .before .before .result .ensures) (e .if1 .left) (d .if2 .left) (c .ascending .ensures)
 
 returns-3 : tie.Need-returns-3
 unfolding column

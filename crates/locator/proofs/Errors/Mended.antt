@@ -1,15 +1,16 @@
 -- Bytes with their errors added. They differ from the bytes only where a weighted error is not zero; and as places, the bytes
 -- and these differ by the weighted errors again, since a weight is divided out and multiplied in. Assumes nothing.
 use mathlib.Core.Path.{_≡_, refl, sym, _∙_, ap, ap₂}
+use mathlib.Core.Bool.{Bool, true, false}
 use mathlib.Core.List.{List, [], _∷_}
 use Prim.Native.Nat.{ℕ, zero, suc, _+_, _*_, _-_, _<_, _≤_}
 use native.Mathlib.Omega.{arith}
 use lib.Dec.{eqb}
 use lib.ListN.{length, getD}
-use borrow.Author.Tests.{eqb-true, eq-eqb}
+use borrow.Author.Tests.{eqb-true, eqb-false, eq-eqb, ne-eqb}
 use Rattle.arrays.proofs.Bool.{count-le}
 use Rattle.field.specs.Field.{plus, times, power, inverse}
-use Rattle.field.proofs.Xor.{plus-lt, plus-zero, plus-again}
+use Rattle.field.proofs.Xor.{plus-lt, plus-self, plus-zero, plus-again}
 use Rattle.field.proofs.Times.{times-lt, zero-times}
 use Rattle.field.proofs.Power.{power-lt, power-nonzero}
 use Rattle.field.proofs.Division.{divide-times}
@@ -66,6 +67,19 @@ unfolding error-byte
 weighted-again s j b y h =
     ap (λ (z : ℕ). times z (power 2 (first-exponent * place-exponent (s .n) (check-count s) j))) (plus-again b _ (times-lt _ _))
     ∙ divide-times y (power 2 (first-exponent * place-exponent (s .n) (check-count s) j)) h (power-lt 2 _) (power-nonzero _)
+
+-- a byte is changed where its weighted error is not zero
+pub error-there : (s : Settings) (j b y : ℕ) → b < 256 → y < 256 → eqb b (plus b (error-byte s j y)) ≡ eqb y 0
+error-there s j b y h l = go (eqb y 0) refl
+  where
+    go : (q : Bool) → eqb y 0 ≡ q → eqb b (plus b (error-byte s j y)) ≡ q
+    go true e = eq-eqb _ _ (no-error s j b y h (eqb-true y 0 e))
+    go false e =
+        let weight = power 2 (first-exponent * place-exponent (s .n) (check-count s) j) in
+        ne-eqb _ _
+        (λ f.
+        eqb-false y 0 e
+        (sym (weighted-again s j b y l) ∙ ap (λ (z : ℕ). times (plus b z) weight) (sym f) ∙ ap (λ (z : ℕ). times z weight) (plus-self b) ∙ zero-times weight))
 
 pub mended-errors :
     (s : Settings) (m j : ℕ) (bs ys : List ℕ) → length bs ≡ length ys → length bs ≤ m → Bytes ys →

@@ -4,13 +4,13 @@ use mathlib.Core.Path.{_≡_, refl, subst}
 use Prim.Native.Nat.{ℕ, zero, suc, _+_, _*_, _-_, _<_, _≤_}
 use native.Mathlib.Omega.{arith}
 use native.Mathlib.Decide.{ℕ-discrete, decLe}
-use lib.ListN.{length, getD}
+use lib.ListN.{length}
 use borrow.Author.Tests.{eq-eqb, ne-eqb, le-leb, lt-leb}
 use Rattle.field.specs.Field.{inverse}
 use Rattle.arrays.proofs.Bytes.{Bytes}
 use Rattle.code.proofs.Polynomials.Arithmetic.{length-scaled, bytes-scaled}
 use Rattle.locator.specs.Locator.{against, raised, State, start, longer, as-long, changed, massey}
-use Rattle.locator.proofs.Polynomials.Monic.{Monic, monic-length, monic-bytes, monic-top, monic-raised, monic-added}
+use Rattle.locator.proofs.Polynomials.Monic.{Monic, monic-length, monic-bytes, monic-raised, monic-added}
 use Rattle.locator.proofs.Polynomials.Raised.{raised-length}
 
 pub record State-shape (k : ℕ) (s : State) : Type 0 where
@@ -94,6 +94,3 @@ module _ (k : ℕ) (s : State) (h : State-shape k s) where
 
   pub locator-bytes : Bytes (s .locator)
   locator-bytes = monic-bytes (s .size) (s .locator) (h .monic)
-
-  pub locator-top : getD (s .locator) (s .size) 0 ≡ 1
-  locator-top = monic-top (s .size) (s .locator) (h .monic)

@@ -5,7 +5,7 @@ use mathlib.Core.List.{List, [], _∷_}
 use Prim.Native.Nat.{ℕ, zero, suc, _+_, _<_, _≤_}
 use native.Mathlib.Nat.{zero-add, suc-add}
 use native.Mathlib.Omega.{arith}
-use lib.ListN.{length, getD}
+use lib.ListN.{length}
 use Rattle.field.specs.Field.{plus, times}
 use Rattle.field.proofs.Xor.{plus-comm, plus-assoc, plus-self, plus-lt, plus-zero, zero-plus, plus-swap}
 use Rattle.field.proofs.Times.{times-lt, times-plus, times-zero}
@@ -33,12 +33,6 @@ monic-bytes n [] m = tt
 monic-bytes zero (p ∷ []) m = (omega arith, tt)
 monic-bytes zero (p ∷ q ∷ ps) m = absurd m
 monic-bytes (suc n) (p ∷ ps) m = (m .0, monic-bytes n ps (m .1))
-
-pub monic-top : (n : ℕ) (ps : List ℕ) → Monic n ps → getD ps n 0 ≡ 1
-monic-top n [] m = absurd m
-monic-top zero (p ∷ []) m = m
-monic-top zero (p ∷ q ∷ ps) m = absurd m
-monic-top (suc n) (p ∷ ps) m = monic-top n ps (m .1)
 
 pub monic-zero : (ps : List ℕ) (x : ℕ) → x < 256 → Monic zero ps → eval ps x ≡ 1
 monic-zero [] x h m = absurd m

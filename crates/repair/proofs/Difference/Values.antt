@@ -1,14 +1,19 @@
--- Values added byte by byte: with zeros, with themselves, twice with the same bytes; and a plane of the sum is the sum of the planes.
+-- Values added byte by byte: with zeros, with themselves, twice with the same bytes; a plane of the sum is the sum of the planes, and
+-- values to which the same are added differ where they did before.
 -- Assumes nothing.
-use mathlib.Core.Path.{_≡_, refl, _∙_, ap, ap₂}
+use mathlib.Core.Path.{_≡_, refl, sym, _∙_, ap, ap₂}
+use mathlib.Core.Bool.{Bool, true, false, _&&_, cond}
 use mathlib.Core.List.{List, [], _∷_}
-use Prim.Native.Nat.{ℕ, zero, suc, _*_, _-_}
+use Prim.Native.Nat.{ℕ, zero, suc, _+_, _*_, _-_, _<_}
 use native.Mathlib.Omega.{arith}
+use lib.Dec.{eqb}
 use lib.ListN.{length, replicate, length-replicate}
+use borrow.Author.Tests.{eqb-true, eqb-false, eq-eqb, ne-eqb}
+use Rattle.field.specs.Field.{plus}
 use Rattle.field.proofs.Xor.{plus-self, plus-zero, plus-again}
 use Rattle.code.specs.Settings.{Settings, value-size}
 use Rattle.code.specs.Polynomial.{added}
-use Rattle.code.specs.Vector.{plane, cut}
+use Rattle.code.specs.Vector.{plane, same, differ-values, cut}
 use Rattle.arrays.proofs.Bytes.{Bytes, bytes-zeros}
 use Rattle.arrays.proofs.Zeros.{zeros-at}
 use Rattle.code.proofs.Polynomials.Arithmetic.{length-added, bytes-added, getD-added}
@@ -36,6 +41,45 @@ added-again [] (c ∷ cs) e b = absurd (omega arith)
 added-again (v ∷ vs) [] e b = absurd (omega arith)
 added-again (v ∷ vs) (c ∷ cs) e b =
     ap₂ _∷_ (plus-again v c (b .0)) (added-again vs cs (omega arith) (b .1))
+
+-- bytes added alike on both sides are the same where they were before
+byte-alike : (v a b : ℕ) → a < 256 → b < 256 → eqb (plus v a) (plus v b) ≡ eqb a b
+byte-alike v a b h l = go (eqb a b) refl
+  where
+    go : (q : Bool) → eqb a b ≡ q → eqb (plus v a) (plus v b) ≡ q
+    go true e = eq-eqb _ _ (ap (plus v) (eqb-true a b e))
+    go false e = ne-eqb _ _ (λ f. eqb-false a b e (sym (plus-again v a h) ∙ ap (plus v) f ∙ plus-again v b l))
+
+added-alike : (vs us bs : List ℕ) → length vs ≡ length us → length vs ≡ length bs → Bytes us → Bytes bs → same (added vs us) (added vs bs) ≡ same us bs
+unfolding added same
+added-alike [] [] [] e f x y = refl
+added-alike [] [] (b ∷ bs) e f x y = absurd (omega arith)
+added-alike [] (a ∷ us) bs e f x y = absurd (omega arith)
+added-alike (v ∷ vs) [] bs e f x y = absurd (omega arith)
+added-alike (v ∷ vs) (a ∷ us) [] e f x y = absurd (omega arith)
+added-alike (v ∷ vs) (a ∷ us) (b ∷ bs) e f x y =
+    ap₂ _&&_ (byte-alike v a b (x .0) (y .0)) (added-alike vs us bs (omega arith) (omega arith) (x .1) (y .1))
+
+pub plus-differ :
+    (w : ℕ) (vs us bs : List (List ℕ)) → length vs ≡ length us → length vs ≡ length bs → Values w vs → Values w us → Values w bs →
+    differ-values (plus-values vs us) (plus-values vs bs) ≡ differ-values us bs
+unfolding plus-values differ-values
+plus-differ w [] [] [] e f x y z = refl
+plus-differ w [] [] (b ∷ bs) e f x y z = absurd (omega arith)
+plus-differ w [] (a ∷ us) bs e f x y z = absurd (omega arith)
+plus-differ w (v ∷ vs) [] bs e f x y z = absurd (omega arith)
+plus-differ w (v ∷ vs) (a ∷ us) [] e f x y z = absurd (omega arith)
+plus-differ w (v ∷ vs) (a ∷ us) (b ∷ bs) e f x y z =
+    ap₂ (λ (q : Bool) (i : ℕ). cond q 0 1 + i) (added-alike v a b (x .0 ∙ sym (y .0)) (x .0 ∙ sym (z .0)) (y .1) (z .1))
+    (plus-differ w vs us bs (omega arith) (omega arith) (x .2) (y .2) (z .2))
+
+pub plus-values-again : (w : ℕ) (vs cs : List (List ℕ)) → length vs ≡ length cs → Values w vs → Values w cs → plus-values vs (plus-values vs cs) ≡ cs
+unfolding plus-values
+plus-values-again w [] [] e x y = refl
+plus-values-again w [] (c ∷ cs) e x y = absurd (omega arith)
+plus-values-again w (v ∷ vs) [] e x y = absurd (omega arith)
+plus-values-again w (v ∷ vs) (c ∷ cs) e x y =
+    ap₂ _∷_ (added-again v c (x .0 ∙ sym (y .0)) (y .1)) (plus-values-again w vs cs (omega arith) (x .2) (y .2))
 
 -- values and their planes
 pub plus-values-length : (vs us : List (List ℕ)) → length vs ≡ length us → length (plus-values vs us) ≡ length vs
@@ -72,7 +116,7 @@ pub zero-values : (n w : ℕ) → Values w (replicate n (replicate w 0))
 zero-values zero w = tt
 zero-values (suc n) w = (length-replicate w 0, bytes-zeros w, zero-values n w)
 
-plus-zero-values : (n w : ℕ) (vs : List (List ℕ)) → length vs ≡ n → Values w vs → plus-values vs (replicate n (replicate w 0)) ≡ vs
+pub plus-zero-values : (n w : ℕ) (vs : List (List ℕ)) → length vs ≡ n → Values w vs → plus-values vs (replicate n (replicate w 0)) ≡ vs
 unfolding plus-values
 plus-zero-values zero w [] e v = refl
 plus-zero-values zero w (x ∷ vs) e v = absurd (omega arith)

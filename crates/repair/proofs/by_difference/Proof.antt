@@ -1,11 +1,12 @@
--- `by_difference` meets its contract: no difference, a plane that does not decode, or errors that are applied. Assumes nothing.
-use mathlib.Core.Path.{refl, sym, _∙_}
+-- `by_difference` meets its contract: no difference, a plane that does not decode, or errors that are applied and counted. Assumes nothing.
+use mathlib.Core.Path.{_≡_, refl, sym, _∙_}
 use Prim.Native.Nat.{_+_, _*_, _≤_}
 use native.Mathlib.Omega.{arith}
+use lib.ListN.{length}
 use borrow.Author.Tests.{not-true, not-false}
 use Rattle.arrays.proofs.Zeros.{zero-at}
 use Rattle.arrays.proofs.Front.{copied}
-use Rattle.code.specs.Size.{most-columns}
+use Rattle.code.specs.Size.{most-columns, place-rows}
 use Rattle.lanes.specs.Lanes.{row-width}
 use Rattle.code.specs.Settings.{settings, value-size}
 use Rattle.code.specs.Entry.{values-in}
@@ -105,34 +106,54 @@ returns-2 c =
     answer-none (a .n) (a .t) (a .w) (a .vector .now) (a .own .now) (a .checks .now) (rows .result) (s .pre .0) (own-bytes d) (check-bytes d)
     (s .pre .1 .1) (s .pre .1 .2) (rows .ensures) _ _ (a .output .now) (not-true _ (c .if2 .taken)) (e .decode .ensures)
 
+-- the errors found, and how many they are
+abbrev found : tie.After-weighted2 → tie.Else2
+found c = c .before .before .before .before
+
+found-long : (c : tie.Else2) → length (c .before .before .decode .result .weighted) ≡ place-rows
+found-long c = decoded-long _ _ _ _ _ (not-false _ (c .if2 .left)) (c .before .before .decode .ensures)
+
 slice-aggregate-apply-errors : tie.Need-slice-aggregate-apply-errors
-slice-aggregate-apply-errors c =
-    let found = c .before .before .before .before in sym (decoded-long _ _ _ _ _ (not-false _ (found .if2 .left)) (found .before .before .decode .ensures))
+slice-aggregate-apply-errors c = sym (found-long (found c))
 
 apply-errors-requires : tie.Need-apply-errors-requires
 apply-errors-requires c κs =
-    let found = c .before .before .before .before .before in
-    let e = found .before .before in
-    let g = tables e in
+    let e = found (c .before) in
+    let g = tables (e .before .before) in
     let s = start (difference-of g) in
     let z = bounds s in
-    let long = decoded-long _ _ _ _ _ (not-false _ (found .if2 .left)) (e .decode .ensures) in
+    let long = found-long e in
     ((g .before .powers .ensures, g .logarithms .ensures), ((z .0, z .2, omega arith), (s .pre .1 .0, s .pre .1 .3)))
+
+-- the errors applied
+abbrev applied : tie.After-weighted3 → tie.After-apply-errors
+applied c = c .before .before .before
+
+slice-aggregate-count-changed : tie.Need-slice-aggregate-count-changed
+slice-aggregate-count-changed c = sym (found-long (found (applied c .before .before)))
+
+add-count-changed : tie.Need-add-count-changed
+add-count-changed c = let z = bounds (start (difference-of (tables (found (applied c .before .before) .before .before)))) in omega arith
+
+count-changed-requires : tie.Need-count-changed-requires
+count-changed-requires c κs =
+    let e = found (applied c .before .before) in
+    let z = bounds (start (difference-of (tables (e .before .before)))) in
+    let long = found-long e in
+    (omega arith, omega arith)
 
 returns-3 : tie.Need-returns-3
 unfolding values-in settings value-size
 returns-3 c =
-    let applied = c .before .before in
-    let weighted = applied .before .before .before .before .before in
-    let found = weighted .before in
-    let e = found .before .before in
-    let d = difference-of (tables e) in
+    let done = applied (c .before) in
+    let e = found (done .before .before) in
+    let d = difference-of (tables (e .before .before)) in
     let s = start d in
     let a = s .args in
     let rows = d .difference in
     answer-found (a .n) (a .t) (a .w) (a .vector .now) (a .own .now) (a .checks .now) (rows .result) (s .pre .0) (own-bytes d) (check-bytes d)
-    (s .pre .1 .1) (s .pre .1 .2) (rows .ensures) _ _ (a .output .now) _ (bounds s .2) (not-false _ (found .if2 .left)) (e .decode .ensures)
-    (applied .apply-errors .ensures)
+    (s .pre .1 .1) (s .pre .1 .2) (rows .ensures) _ _ _ (a .output .now) _ (bounds s .2) (not-false _ (e .if2 .left)) (e .before .before .decode .ensures)
+    (c .count-changed .ensures) (done .apply-errors .ensures)
 
 pub by-difference-spec : {M : Type 1} → statement M
 by-difference-spec =
@@ -152,5 +173,8 @@ by-difference-spec =
     returns-2
     slice-aggregate-apply-errors
     apply-errors-requires
+    slice-aggregate-count-changed
+    add-count-changed
+    count-changed-requires
     (λ c. search needs)
     returns-3)

@@ -61,9 +61,9 @@ returns-2 c =
     let a = start e .args in
     let s = settings (a .n) (a .t) (a .w) in
     let own = put .check-values in
-    repair-done (a .n) (a .t) (a .w) (a .vector .now) (a .checks .now) (a .output .now) _ _ (sym (e .before .refused .ensures) ∙ e .if1 .left)
+    repair-done (a .n) (a .t) (a .w) (a .vector .now) (a .checks .now) (a .output .now) _ _ _ (sym (e .before .refused .ensures) ∙ e .if1 .left)
     (by-own-checks s (values-in s (a .n) (a .vector .now)) (values-in s (2 * a .t) (take (length (a .checks .now)) (own .last .1 .1 .1 .1 .0)))
-    (values-in s (2 * a .t) (a .checks .now)) _ _ _
+    (values-in s (2 * a .t) (a .checks .now)) _ _ _ _
     (is-vector-in (a .n) (a .t) (a .w) (a .vector .now) (d .vector) (bytes-every (a .vector .now) (λ i. e .before .before .before .before .shared-slice-known .given i .fits)))
     (subst (λ (k : ℕ). has-checks s (values-in s (a .n) (a .vector .now)) (values-in s (2 * a .t) (take k (own .last .1 .1 .1 .1 .0))) ≡ true) (sym (d .checks))
     (own-checks (a .n) (a .t) (a .w) _ (a .vector .now) _ _ (d .allowed) (d .vector) (room (a .n) (a .t) (a .w) (d .allowed)) (own .ensures)))

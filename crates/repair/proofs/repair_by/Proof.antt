@@ -37,7 +37,7 @@ returns-3 c =
     let own = repaired .before .before in
     let a = start (own .before .before) .args in
     let e = passed (own .before) in
-    repair-by-done (a .n) (a .t) (a .w) (a .vector .now) (a .checks .now) (a .output .now) (a .own .now) _ _ e
+    repair-by-done (a .n) (a .t) (a .w) (a .vector .now) (a .checks .now) (a .output .now) (a .own .now) _ _ _ e
     (own .if2 .left ∙ accepted (a .n) (a .t) (a .w) _ _ _ e .checks) (repaired .by-difference .ensures)
 
 pub repair-by-spec : {M : Type 1} → statement M

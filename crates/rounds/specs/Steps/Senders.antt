@@ -4,7 +4,8 @@ use mathlib.Core.Bool.{Bool, true, false}
 use mathlib.Core.List.{List, []}
 use Prim.Native.Nat.{ℕ, _+_, _*_, _<_}
 use lib.Dec.{eqb}
-use lib.ListN.{getD, take}
+use lib.ListN.{length, getD, take}
+use Rattle.arrays.specs.Array.{in-front}
 use Rattle.code.specs.Settings.{Settings, settings, settings-refusal, check-count, value-size}
 use Rattle.code.specs.Vector.{has-checks}
 use Rattle.code.specs.Entry.{values-in}
@@ -32,15 +33,20 @@ pub record Coded-right (c : Coded) : Type 0 where
       (checks-in (coded-settings c) (take (check-count (coded-settings c) * value-size (coded-settings c)) (c .checks)))
       ≡ true
 
--- the row of a slot: the column's own is its vector, another's the vector repaired by the checks of its frame, or blanks
-unfoldable pub Slot-row : Settings → (own : Vector) → (mine : Bool) → Slot → (row : Vector) → Type 0
-Slot-row s vs true x row = row ≡ vs
-Slot-row s vs false x row = Row s vs (frame-in (check-count s * value-size s) x) row
+-- the row of a slot and what it tells: the column's own is its vector, another's the vector repaired by the checks of its frame, or blanks
+unfoldable pub Slot-row : Settings → (own : Vector) → (mine : Bool) → Slot → (row : Vector) → (told : ℕ) → Type 0
+Slot-row s vs true x row m = (row ≡ vs) × (m ≡ 0)
+Slot-row s vs false x row m = Row s vs (frame-in (check-count s * value-size s) x) row m
 
 -- what stands for a slot past the last
 abbrev pub slot-past : Slot
 slot-past = record { taken = 0; bytes = [] }
 
--- a table with the rows of all slots
-unfoldable pub Slot-rows : Settings → (own : Vector) → (number : ℕ) → List Slot → Planes → Type 0
-Slot-rows s vs k slots x = (j : ℕ) → j < s .n → Slot-row s vs (eqb (j + 1) k) (getD slots j slot-past) (row-in (s .n) (value-size s) x j)
+-- a table with the rows of all slots, and what each tells
+pub record Slot-rows (s : Settings) (own : Vector) (number : ℕ) (slots : List Slot) (x : Planes) (told : List ℕ) : Type 0 where
+  pub many : length told ≡ s .n
+  pub each : (j : ℕ) → j < s .n → Slot-row s own (eqb (j + 1) number) (getD slots j slot-past) (row-in (s .n) (value-size s) x j) (getD told j 0)
+
+-- the same, where what each row tells goes to the front of an array
+unfoldable pub Slots-told : Settings → (own : Vector) → (number : ℕ) → List Slot → Planes → (array array-now : List ℕ) → Type 0
+Slots-told s vs k slots x old now = (told : List ℕ) × Slot-rows s vs k slots x told × (now ≡ in-front told old)

@@ -7,7 +7,7 @@ use Prim.Native.Nat.{ℕ, zero, suc, _+_, _*_, _≤_, _<_}
 use native.Mathlib.Omega.{arith}
 use native.Mathlib.Nat.{suc-mul, mul-le-mul-right}
 use native.Mathlib.Decide.{decLt}
-use lib.ListN.{length, getD, replicate}
+use lib.ListN.{length, getD}
 use Rattle.arrays.specs.Array.{all-zero, Written}
 use Rattle.arrays.proofs.Zeros.{zero-at}
 use Rattle.field.specs.Field.{plus}
@@ -18,7 +18,7 @@ use Rattle.code.specs.Vector.{plane, cut}
 use Rattle.code.proofs.Polynomials.Arithmetic.{length-added}
 use Rattle.sums.specs.Rows.{Values-added}
 use Rattle.code.proofs.Vectors.Cut.{plane-cut, plane-cut-length}
-use Rattle.lanes.proofs.Lane.{lane-is, lane-zeros}
+use Rattle.lanes.proofs.Lane.{lane-is}
 
 -- a value before the last ends within the list
 pub value-within : (c count size k : ℕ) → c < count → count * size ≤ k → c * size + size ≤ k
@@ -81,6 +81,3 @@ module _ (count size : ℕ) (own checks rows : List ℕ) (v : Values-added count
 
       vs-long : length vs ≡ count
       vs-long = plane-cut-length p count size checks
-
-  pub spare-lane : size ≤ p → p < row-width → lane p count rows ≡ replicate count 0
-  spare-lane h l = lane-zeros p count rows (λ j g. v .spare j p h l)

@@ -4,14 +4,17 @@ use mathlib.Core.Path.{_≡_, _∙_, subst}
 use mathlib.Core.List.{List}
 use Prim.Native.Nat.{ℕ, _≤_}
 use native.Mathlib.Omega.{arith}
+use lib.ListN.{replicate}
 use borrow.Author.Needs.{needs}
 use borrow.Author.Tests.{eq-eqb, ne-eqb}
+use Rattle.arrays.specs.Array.{padded}
+use Rattle.code.specs.Size.{most-columns}
 use Rattle.code.specs.Entry.{values-in}
 use Rattle.counting.specs.Steps.Table.{rows-in}
 use Rattle.record.specs.Refusal.{record-refusal}
-use Rattle.rounds.specs.Exchange.{Table}
 use Rattle.record.specs.View.{settings-of, who-in, view, inbox}
-use Rattle.rounds.specs.Steps.Closing.{checked-in}
+use Rattle.rounds.specs.Steps.Closing.{Table-told, checked-in}
+use Rattle.record.specs.declared.Column.{Column}
 use Rattle.record.proofs.Refusal.{close-record, close-round}
 use Rattle.rounds.proofs.AfterRound.{Inside, inside, finds-heard, finds-agreed, finds-held}
 use Rattle.rounds.proofs.closing.found_after.Statement.{statement}
@@ -49,53 +52,64 @@ later : (c : tie.Else1) → 2 ≤ start c .args .column .round
 later c = omega (arith, rounds (start c), c .if1 .left)
 
 table-requires : tie.Need-table-requires
-table-requires c κs = (fine (start (c .before)), later (c .before))
+table-requires c κs = (fine (start (c .before .before)), later (c .before .before), search needs)
 
 abbrev else-at : tie.After-table → tie.Else1
-else-at c = c .before .before
+else-at c = c .before .before .before
+
+-- the column, and what the table told, in front of zeros
+abbrev column-at : tie.After-table → Column
+column-at c = start (else-at c) .args .column
+
+abbrev told-at : tie.After-table → List ℕ
+told-at c = c .table .last .1 .1 .1 .1 .0
 
 rows-are :
-    (c : tie.After-table) (bytes : List ℕ) → checked-in (start (else-at c) .args .column .round) (start (else-at c) .args .column .found) ≡ bytes →
-    Table (inbox (start (else-at c) .args .column .who) (start (else-at c) .args .column .round) (start (else-at c) .args .column .slots))
-    (values-in (settings-of (start (else-at c) .args .column .who)) (start (else-at c) .args .column .who .n) bytes)
-    (rows-in (start (else-at c) .args .column .who .n) (start (else-at c) .args .column .who .w) (c .table .result))
+    (c : tie.After-table) (bytes : List ℕ) → checked-in (column-at c .round) (column-at c .found) ≡ bytes →
+    Table-told (inbox (column-at c .who) (column-at c .round) (column-at c .slots)) (values-in (settings-of (column-at c .who)) (column-at c .who .n) bytes)
+    (rows-in (column-at c .who .n) (column-at c .who .w) (c .table .result)) (replicate most-columns 0) (told-at c)
 rows-are c bytes e =
-    let a = start (else-at c) .args .column in
-    subst (λ (bs : List ℕ). Table (inbox (a .who) (a .round) (a .slots)) (values-in (settings-of (a .who)) (a .who .n) bs) (rows-in (a .who .n) (a .who .w) (c .table .result)))
-    (c .before .checked .ensures ∙ e) (c .table .ensures)
+    let a = column-at c in
+    subst
+    (λ (bs : List ℕ).
+    Table-told (inbox (a .who) (a .round) (a .slots)) (values-in (settings-of (a .who)) (a .who .n) bs) (rows-in (a .who .n) (a .who .w) (c .table .result))
+    (replicate most-columns 0) (told-at c))
+    (c .before .before .checked .ensures ∙ e) (c .table .ensures)
 
 -- round two
 abbrev table-two : tie.Then2 → tie.After-table
-table-two c = c .before .before .before .before .before
+table-two c = c .before .before .before .before .before .before
 
 agreed-requires : tie.Need-agreed-requires
 agreed-requires c κs = let i = able (start (else-at (table-two c))) in (i .few-columns, i .few-bad, i .few-bytes)
 
 returns-2 : tie.Need-returns-2
-unfolding checked-in settings-of
+unfolding checked-in settings-of Table-told padded
 returns-2 c =
     let two = c .before in
     let t = table-two two in
     let s = start (else-at t) in
-    finds-agreed (s .args .column) (able s) (c .agreed .result) _ (two .if2 .taken) (rows-are t _ (rw (eq-eqb (s .args .column .round) 2 (two .if2 .taken)))) (c .agreed .ensures)
+    let rows = rows-are t (s .args .column .found .heard) (rw (eq-eqb (s .args .column .round) 2 (two .if2 .taken))) in
+    finds-agreed (s .args .column) (able s) (c .agreed .result) (told-at t) (rows .0) _ (two .if2 .taken) (rows .1) (c .agreed .ensures) (rows .2)
 
 -- round three
 abbrev table-three : tie.Else2 → tie.After-table
-table-three c = c .before .before .before .before .before
+table-three c = c .before .before .before .before .before .before
 
 held-requires : tie.Need-held-requires
 held-requires c κs = let i = able (start (else-at (table-three c))) in (i .few-columns, i .few-bad, i .few-bytes)
 
 returns-3 : tie.Need-returns-3
-unfolding checked-in settings-of
+unfolding checked-in settings-of Table-told padded
 returns-3 c =
     let h = c .before .before in
     let three = h .before in
     let t = table-three three in
     let s = start (else-at t) in
     let last : s .args .column .round ≡ 3 = omega (arith, rounds s, later (else-at t), three .if2 .left) in
-    finds-held (s .args .column) (able s) (h .held .result .values) (h .held .result .confidences) _ last
-    (rows-are t _ (rw (ne-eqb (s .args .column .round) 2 (three .if2 .left)))) (h .held .ensures)
+    let rows = rows-are t (s .args .column .found .agreed) (rw (ne-eqb (s .args .column .round) 2 (three .if2 .left))) in
+    finds-held (s .args .column) (able s) (h .held .result .values) (h .held .result .confidences) (told-at t) (rows .0) _ last (rows .1) (h .held .ensures)
+    (rows .2)
 
 pub found-after-spec : {M : Type 1} → statement M
 found-after-spec =
@@ -104,6 +118,7 @@ found-after-spec =
     heard-requires
     returns
     (λ c κs. search needs)
+    (λ c. search needs)
     table-requires
     (λ c. search needs)
     (λ c. search needs)

@@ -7,7 +7,7 @@ use Rattle.rounds.proofs.senders.slot_row.Tie as tie
 
 returns : tie.Need-returns
 unfolding Slot-row coded-vector
-returns c = rw (c .before .if1 .taken) refl
+returns c = rw (c .before .if1 .taken) (refl, refl)
 
 returns-2 : tie.Need-returns-2
 returns-2 c = rw (c .before .if1 .left) (c .repaired .ensures)
