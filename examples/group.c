@@ -35,7 +35,8 @@ static void take_lie(struct sajowemi_column *column, int reader, int round) {
     must(sajowemi_column_take(column, LIAR, lie, sajowemi_column_frame_size(column)));
 }
 
-/* Whose radio may be going bad: the senders that were not right in every place of a round. */
+/* Who was off in a round. A good sender may be off by as many places as there are bad columns, here one; more than t, or a mark, is a
+ * radio to look at. */
 static void print_told(const char *round, const uint8_t *told) {
     int off = 0;
     printf("  round %s:", round);

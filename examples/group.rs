@@ -31,7 +31,8 @@ fn send_to_others(columns: &mut [Column], sender: usize) -> Result<(), Refusal> 
     Ok(())
 }
 
-/// Whose radio may be going bad: the senders that were not right in every place of a round.
+/// Who was off in a round. A good sender may be off by as many places as there are bad columns, here one; more than t, or a mark, is a
+/// radio to look at.
 fn print_told(round: &str, told: impl Fn(u32) -> Option<Told>) {
     let off: Vec<String> = (1..)
         .map_while(|k| Some((k, told(k)?)))

@@ -47,8 +47,9 @@ enum sajowemi_answer {
     SAJOWEMI_NONE = 256 /* of repair alone: no vector is near enough */
 };
 
-/* What a round told of a sender where it is no number of places. A number of places is at most 52; of a good sender, in an exchange whose
- * good columns reach each other, it is no mark and at most the count of bad columns, which may have told the two of them different values. */
+/* What a round told of a sender where it is no number of places. A number of places is at most 52. Where at most t columns are bad, and the
+ * good columns' frames reach each other in time with nothing else under their slots, what is told of a good sender is no mark, and at most
+ * the count of bad columns: these may have sent the two different values. */
 enum sajowemi_told {
     SAJOWEMI_TOLD_MISSING = 254, /* no frame of the sender's counted in that round */
     SAJOWEMI_TOLD_NONE = 255     /* "none": its check values fit no vector near */
@@ -81,7 +82,8 @@ struct sajowemi_slot {
 /* What a column has found: V after round one, Y after two, values and confidences after three. Values stand one after the other, w
  * bytes each, from their array's front on. Of sender k, told_two[k - 1] and told_three[k - 1] are how far off it was in that round: how
  * many of the n + 2 t places, columns' values and check values together, were changed when its row was repaired; 0 for the own row; or
- * SAJOWEMI_TOLD_MISSING or SAJOWEMI_TOLD_NONE. Zeros until that round is closed. */
+ * SAJOWEMI_TOLD_MISSING or SAJOWEMI_TOLD_NONE. Opening leaves zeros, which stay until that round is closed; behind n columns there are
+ * zeros then too. */
 struct sajowemi_findings {
     uint8_t heard[SAJOWEMI_VECTOR_ROOM];
     uint8_t agreed[SAJOWEMI_VECTOR_ROOM];
@@ -150,7 +152,7 @@ uint32_t sajowemi_send(struct sajowemi_column column, uint8_t *buffer, size_t bu
  * Refused 1 to 4, 6 or 7. */
 struct sajowemi_outcome sajowemi_close(struct sajowemi_column column);
 
-/* What a column in round 4 believes. Refused 1 to 4, 6 or 17, with zeros. */
+/* What a column in round 4 believes, and what rounds two and three told it of each sender. Refused 1 to 4, 6 or 17, with zeros. */
 struct sajowemi_holdings sajowemi_result(struct sajowemi_column column);
 
 /* The level and the correction of a column in round 4 with w = 4. Refused 1 to 4, 6, 17, 21 or 22, with zeros. */

@@ -33,7 +33,8 @@ pub struct Slot {
 }
 
 /// What a column has found: V after round one, Y after two, values and confidences after three; and of each sender what rounds two and
-/// three told: how many places were changed when its row was repaired, 0 for the own row, or a mark. Zeros until that round is closed.
+/// three told: how many places were changed when its row was repaired, 0 for the own row, or a mark. Opening leaves zeros, which stay until
+/// that round is closed; behind n columns there are zeros then too.
 #[derive(Clone, Copy)]
 #[repr(C)]
 pub struct Findings {

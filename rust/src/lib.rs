@@ -98,7 +98,7 @@ impl Column {
         Refusal::from_answer(outcome.answer)
     }
 
-    /// What the column believes at the end of round three.
+    /// What the column believes at the end of round three, and how far off it found each sender.
     pub fn result(&self) -> Result<Beliefs, Refusal> {
         let held = archive::result(&self.record);
         Refusal::from_answer(held.answer)?;
@@ -175,10 +175,12 @@ impl Beliefs {
     }
 }
 
-/// What a round told of a sender.
+/// What a round told of a sender. Where at most t columns are bad, and the good columns' frames reach each other in time with nothing else
+/// under their slots, it is of a good sender `Changed`, by at most the count of bad columns: these may have sent the two different values.
 #[derive(Clone, Copy, Debug, PartialEq, Eq)]
 pub enum Told {
-    /// So many of the n + 2t places, columns' values and check values together, were changed when its row was repaired.
+    /// So many of the n + 2t places, columns' values and check values together, were changed when its row was repaired: at most 52, of a
+    /// record that the calls made.
     Changed(u8),
     /// No frame of the sender's counted in that round.
     Missing,
@@ -187,7 +189,7 @@ pub enum Told {
 }
 
 impl Told {
-    /// The byte as a record has it.
+    /// The byte as a record has it. One that no call leaves there, 53 to 253, is read as a number.
     pub fn from_byte(byte: u8) -> Told {
         match byte {
             archive::TOLD_MISSING => Told::Missing,

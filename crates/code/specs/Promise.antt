@@ -2,12 +2,12 @@
 use mathlib.Core.Path.{_≡_}
 use mathlib.Core.Bool.{true}
 use mathlib.Core.List.{List}
-use Prim.Native.Nat.{ℕ, _≤_}
+use Prim.Native.Nat.{ℕ, _≤_, _<_}
 use lib.ListN.{length}
-use Rattle.code.specs.Settings.{Settings, settings-refusal, check-count}
+use Rattle.code.specs.Settings.{Settings, settings-refusal, check-count, value-size}
 use Rattle.code.specs.Polynomial.{generator, Remainder}
 use Rattle.code.specs.Plane.{is-codeword, byte-list, data-polynomial, check-polynomial}
-use Rattle.code.specs.Vector.{is-vector, has-checks, differ-values}
+use Rattle.code.specs.Vector.{plane, is-vector, has-checks, differ-values}
 use Rattle.code.specs.Repair.{Near, Repaired, changed-places}
 
 -- two ways to say that bytes are the checks of a plane: zero at the roots, and the remainder by the generator
@@ -34,6 +34,12 @@ unfoldable pub One-repair : Type 0
 One-repair =
     (s : Settings) (vs cs us ds xs ys : List (List ℕ)) → settings-refusal s ≡ 0 → length vs ≡ s .n → length cs ≡ check-count s →
     Repaired s vs cs us ds → Repaired s vs cs xs ys → (us ≡ xs) × (ds ≡ ys)
+
+-- values whose planes each have a codeword near are a repair: the checks of these codewords, put together, are its check values
+unfoldable pub Planes-repair : Type 0
+Planes-repair =
+    (s : Settings) (vs cs us : List (List ℕ)) → is-vector s us ≡ true →
+    ((p : ℕ) → p < value-size s → (ds : List ℕ) × Near s (plane p vs) (plane p cs) (plane p us) ds) → (ds : List (List ℕ)) × Repaired s vs cs us ds
 
 -- the check values of a vector repair any other vector that differs from it in at most t values, and change these places alone
 unfoldable pub Repairs : Type 0

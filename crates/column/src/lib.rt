@@ -118,6 +118,7 @@ pub fn result(column: Column) -> Holdings
     let found = column.found;
     let answer = refusals::ask_refusal(who, column.round);
     if answer != 0 {
+        // No byte of what was found.
         return holdings::fronts(answer, found, 0, 0);
     }
     let size = record::vector_size(who.n, who.w);

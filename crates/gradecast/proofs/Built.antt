@@ -121,17 +121,26 @@ built-gradecast s run bs g h x c i j l e f a b p q = (
         (among-map defined l) (round-four s run g (c .ran g i) e a p) (round-four s run h (c .ran h j) f b q)
 
 -- what a round told of a column stands in the front of its array
-told-inside : (most k : ℕ) (told array : List ℕ) → array ≡ padded most-columns told → Few-told most told k → Few-told most array k
+told-at : (k : ℕ) (told array : List ℕ) → array ≡ padded most-columns told → (getD told (k - 1) told-missing ≡ told-missing → ⊥) →
+    getD array (k - 1) told-missing ≡ getD told (k - 1) told-missing
 unfolding padded in-front
-told-inside most k told array e f =
-    record { not-missing = λ z. f .not-missing (sym same ∙ z); not-none = λ z. f .not-none (sym same ∙ z); few = rw same (f .few) }
+told-at k told array e there =
+    ap (λ (bs : List ℕ). getD bs (k - 1) told-missing) e ∙ List·getD-append told _ told-missing (k - 1) (inside _ refl)
   where
     inside : (q : Bool) → ltb (k - 1) (length told) ≡ q → k - 1 < length told
     inside true h = ltb-true (k - 1) (length told) h
-    inside false h = absurd (f .not-missing (List·getD-eq-default told told-missing (ltb-false (k - 1) (length told) h)))
+    inside false h = absurd (there (List·getD-eq-default told told-missing (ltb-false (k - 1) (length told) h)))
 
-    same : getD array (k - 1) told-missing ≡ getD told (k - 1) told-missing
-    same = ap (λ (bs : List ℕ). getD bs (k - 1) told-missing) e ∙ List·getD-append told _ told-missing (k - 1) (inside _ refl)
+told-inside : (most own k : ℕ) (told array : List ℕ) → array ≡ padded most-columns told → Few-told most told own k → Few-told most array own k
+told-inside most own k told array e f =
+    let mine = told-at own told array e (λ z. (let clash : _≡_ {A = ℕ} told-missing 0 = sym z ∙ f .itself in omega arith)) in
+    let same = told-at k told array e (f .not-missing) in
+    record {
+      itself = mine ∙ f .itself;
+      not-missing = λ z. f .not-missing (sym same ∙ z);
+      not-none = λ z. f .not-none (sym same ∙ z);
+      few = rw same (f .few);
+    }
 
 pub built-told : Built-told
 unfolding Built-told Good-told defined
@@ -140,4 +149,4 @@ built-told s run bs g x c i l e p says =
     let told =
     good-told s run (map defined bs) (defined g) (defined x) (conditions-follow s run bs c) (among-map defined i) (among-map defined l)
     (round-four s run g (c .ran g i) e p says) in
-    (fine, told-inside _ (x .number) _ _ (says .two fine) (told .0), told-inside _ (x .number) _ _ (says .three fine) (told .1))
+    (fine, told-inside _ _ _ _ _ (says .two fine) (told .0), told-inside _ _ _ _ _ (says .three fine) (told .1))

@@ -142,7 +142,8 @@ module _ {s : Settings} {run : ℕ} {gs : List Good} (group : Group s run gs) (r
   -- what its tables of rounds two and three told
   few-told :
       (g x : Good) → Among g gs → Among x gs → g .last .round ≡ 4 →
-      Few-told (bad-count s gs) (g .last .found .told-two) (x .number) × Few-told (bad-count s gs) (g .last .found .told-three) (x .number)
+      Few-told (bad-count s gs) (g .last .found .told-two) (g .number) (x .number)
+      × Few-told (bad-count s gs) (g .last .found .told-three) (g .number) (x .number)
   few-told g x i l e =
       let v = closed group g i 2 (omega arith) (omega arith) in
       let y = v .way .two (v .in-round) in

@@ -192,12 +192,20 @@ module _ {s : Settings} {run : ℕ} {gs : List Good} (group : Group s run gs) wh
                   (λ b j. row-said b j .0 ∙ sym (of-number-is [] (said c) (group .conditions .different) j));
             }
 
-        pub tells : (b : Good) → Among b gs → Few-told (bad-count s gs) told (b .number)
+        told-inside : (b : Good) → Among b gs → getD told (b .number - 1) told-missing ≡ getD told (b .number - 1) 0
+        told-inside b j =
+            getD-inside told (b .number - 1) told-missing 0
+            (omega (arith, t .told-many ∙ ap (λ (u : Settings). u .n) (p .settings), opens group b j .low, opens group b j .high))
+
+        pub tells : (b : Good) → Among b gs → Few-told (bad-count s gs) told (a .number) (b .number)
         tells b j =
-            let inside : b .number - 1 < length told =
-            omega (arith, t .told-many ∙ ap (λ (u : Settings). u .n) (p .settings), opens group b j .low, opens group b j .high) in
-            let same = getD-inside told (b .number - 1) told-missing 0 inside in
+            let same = told-inside b j in
             let few = row-said b j .1 in
             let bad = bad-le-t in
             let t-few = sizes s (group .fine) in
-            record { not-missing = λ e. absurd (omega arith); not-none = λ e. absurd (omega arith); few = omega arith }
+            record {
+              itself = told-inside a i ∙ ap (λ (k : ℕ). getD told (k - 1) 0) (sym (p .number)) ∙ t .own-told;
+              not-missing = λ e. absurd (omega arith);
+              not-none = λ e. absurd (omega arith);
+              few = omega arith;
+            }

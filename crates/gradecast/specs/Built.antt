@@ -67,14 +67,14 @@ Built-gradecast =
     g .last .round ≡ 4 → h .last .round ≡ 4 → (p q : Holdings) → Result-says (g .last) p → Result-says (h .last) q →
     (p .answer ≡ 0) × (q .answer ≡ 0) × Agree (s .n) (answered s p) (answered s q) (x .number) (x .own)
 
--- what rounds two and three told, of the calls as built: `result` does not refuse a good column that has finished, and what it answers of a
--- good one is no mark, and at most as many places as there are bad columns
+-- what rounds two and three told, of the calls as built: `result` does not refuse a good column that has finished, and what it answers is
+-- 0 of itself, and of a good one no mark, and at most as many places as there are bad columns
 unfoldable pub Built-told : Type 0
 Built-told =
     (s : Settings) (run : ℕ) (bs : List Built) (g x : Built) → Built-conditions s run bs → Among g bs → Among x bs → g .last .round ≡ 4 →
     (p : Holdings) → Result-says (g .last) p →
-    (p .answer ≡ 0) × Few-told (bad-count s (map defined bs)) (p .«told_two») (x .number)
-    × Few-told (bad-count s (map defined bs)) (p .«told_three») (x .number)
+    (p .answer ≡ 0) × Few-told (bad-count s (map defined bs)) (p .«told_two») (g .number) (x .number)
+    × Few-told (bad-count s (map defined bs)) (p .«told_three») (g .number) (x .number)
 
 -- a round tells nothing before it is closed: until then its list is zeros to the byte
 unfoldable pub Nothing-told : Type 0

@@ -89,19 +89,21 @@ pub record Agree (n : ℕ) (g h : (column : ℕ) → Held) (number : ℕ) (own :
 unfoldable pub bad-count : Settings → List Good → ℕ
 bad-count s gs = unlisted (numbers gs) (s .n) 1
 
--- what a round told of a column is a number of places, no mark, and at most so many; a list that has nothing of it says that its frame was
--- missing
-pub record Few-told (most : ℕ) (told : List ℕ) (column : ℕ) : Type 0 where
-  pub not-missing : getD told (column - 1) told-missing ≡ told-missing → ⊥
-  pub not-none : getD told (column - 1) told-missing ≡ told-none → ⊥
-  pub few : getD told (column - 1) told-missing ≤ most
+-- what a round told a column of itself, 0, and of a sender: a number of places, no mark, and at most so many. A list that has nothing of
+-- one would say that its frame was missing; that it is no mark follows where so many are fewer than 254
+pub record Few-told (most : ℕ) (told : List ℕ) (own sender : ℕ) : Type 0 where
+  pub itself : getD told (own - 1) told-missing ≡ 0
+  pub not-missing : getD told (sender - 1) told-missing ≡ told-missing → ⊥
+  pub not-none : getD told (sender - 1) told-missing ≡ told-none → ⊥
+  pub few : getD told (sender - 1) told-missing ≤ most
 
--- what rounds two and three told a good column that has finished of a good one: at most as many places as there are bad columns; the two
--- may also be one and the same
+-- what rounds two and three told a good column that has finished of itself, and of a good one: at most as many places as there are bad
+-- columns; the two may also be one and the same
 unfoldable pub Good-told : Type 0
 Good-told =
     (s : Settings) (run : ℕ) (gs : List Good) (g x : Good) → Conditions s run gs → Among g gs → Among x gs → g .last .round ≡ 4 →
-    Few-told (bad-count s gs) (g .last .found .told-two) (x .number) × Few-told (bad-count s gs) (g .last .found .told-three) (x .number)
+    Few-told (bad-count s gs) (g .last .found .told-two) (g .number) (x .number)
+    × Few-told (bad-count s gs) (g .last .found .told-three) (g .number) (x .number)
 
 -- demand 3: any two good columns that have finished agree; two may also be one and the same
 unfoldable pub Gradecast : Type 0

@@ -22,12 +22,13 @@ pub record Who : Type 0 where
 unfoldable pub who-as : Settings → (number run : ℕ) → (own : Value) → Who
 who-as s k run v = record { settings = s; number = k; run = run; own = v }
 
--- what a round of checks told of a sender is how many places its checks changed, or one of two marks, which are no numbers of places:
--- that its frame was missing
+-- What a round of checks told of a sender is how many places were changed when its row was repaired, or one of two marks, which are no
+-- numbers of places.
+-- the mark of a missing frame
 abbrev pub told-missing : ℕ
 told-missing = 254
 
--- that its checks gave "none"
+-- the mark of "none"
 abbrev pub told-none : ℕ
 told-none = 255
 

@@ -28,6 +28,7 @@ use Rattle.code.proofs.Vectors.Cut.{cut-length, cut-values, glued-cut}
 use Rattle.lanes.proofs.Lane.{lane-length, lane-at, lane-zeros}
 use Rattle.code.proofs.Codewords.Near.{differ-self}
 use Rattle.code.proofs.Vectors.Planes.{Values, plane-bytes, vector-of, vector-back, checks-back, differ-values-self}
+use Rattle.code.proofs.Vectors.ByPlanes.{by-planes, by-planes-length, by-planes-values, by-planes-plane}
 use Rattle.code.proofs.ValidSettings.{sizes}
 use Rattle.code.proofs.Codewords.Word.{word-back}
 use Rattle.locator.specs.Errors.{error-byte, mended, Error-bytes}
@@ -42,7 +43,7 @@ use Rattle.sums.proofs.Sums.CheckSums.{syndrome-zeros, summed-zeros}
 use Rattle.locator.proofs.Decoder.{mended-zeros}
 use Rattle.locator.proofs.Errors.Mended.{mended-length, mended-bytes, mended-at, error-there}
 use Rattle.repair.proofs.ColumnErrors.{column-errors-vector, column-errors-plane}
-use Rattle.repair.proofs.WrongRows.{wrong-rows-plus, rows-changed, by-planes, by-planes-length, by-planes-values, by-planes-plane}
+use Rattle.repair.proofs.WrongRows.{wrong-rows-plus, rows-changed}
 use Rattle.repair.proofs.Difference.Values.{zero-values, plus-zeros, plane-plus, plane-zeros, plus-values-length, plus-values-values}
 
 glued-whole : (n w : ℕ) (vector : List ℕ) → length vector ≡ n * w → glued (cut n w vector) ≡ vector

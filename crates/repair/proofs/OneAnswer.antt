@@ -14,7 +14,8 @@ use Rattle.code.specs.Promise.{One-repair}
 use Rattle.code.proofs.Vectors.Cut.{cut-length}
 use Rattle.code.proofs.Vectors.Planes.{one-repair, repaired-or-none}
 use Rattle.repair.specs.Difference.{plus-values, zeros}
-use Rattle.repair.specs.Entry.{Done, Repair-as, Repair-says, Done-by, Repair-by-as, Repair-by-says, One-answer}
+use Rattle.repair.specs.Entry.{Done, Repair-as, Repair-says, Done-by, Repair-by-as, Repair-by-says}
+use Rattle.repair.specs.Promise.{One-answer}
 use Rattle.repair.proofs.Difference.Values.{plus-values-length}
 use Rattle.repair.proofs.Entry.{accepted, by-passed}
 

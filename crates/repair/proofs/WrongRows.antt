@@ -1,6 +1,6 @@
 -- The places that have an error are those that a repair changes. A byte with its error added is another byte just where the error is not
 -- 0, so that a value differs from the repaired one just where its row of errors is not all 0, and the rows counted are the values that
--- differ. Check values that a repair tells plane by plane are put together for that. Assumes nothing.
+-- differ. Assumes nothing.
 use mathlib.Core.Path.{_≡_, refl, sym, _∙_, ap, ap₂}
 use mathlib.Core.Bool.{Bool, true, cond, _&&_}
 use mathlib.Core.List.{List, [], _∷_}
@@ -12,7 +12,6 @@ use lib.ListN.{length, getD, take, drop, length-drop}
 use lib.Seq.{drop-drop, getD-drop}
 use borrow.Author.Tests.{eq-eqb}
 use Rattle.arrays.specs.Array.{all-zero}
-use Rattle.arrays.proofs.Bytes.{Bytes, bytes-drop, byte-at}
 use Rattle.lanes.specs.Lanes.{row-width, in-row}
 use Rattle.code.specs.Vector.{plane, same, differ-values}
 use Rattle.code.proofs.Vectors.Planes.{Values}
@@ -84,55 +83,3 @@ rows-changed (suc k) w (v ∷ vs) (u ∷ us) ys e f a b l m c z =
 
     behind : (j p : ℕ) → getD (drop row-width ys) (in-row j p) 0 ≡ getD ys (in-row (suc j) p) 0
     behind j p = getD-drop row-width ys (in-row j p) 0 ∙ ap (λ (i : ℕ). getD ys i 0) (let e : row-width + in-row j p ≡ in-row (suc j) p = omega arith in e)
-
--- values put together of their planes
-abbrev front-bytes : (w i : ℕ) → (ℕ → List ℕ) → List ℕ
-front-bytes zero i f = []
-front-bytes (suc w) i f = getD (f i) 0 0 ∷ front-bytes w (suc i) f
-
-pub by-planes : (many w : ℕ) → (ℕ → List ℕ) → List (List ℕ)
-by-planes zero w f = []
-by-planes (suc k) w f = front-bytes w 0 f ∷ by-planes k w (λ p. drop 1 (f p))
-
-front-length : (w i : ℕ) (f : ℕ → List ℕ) → length (front-bytes w i f) ≡ w
-front-length zero i f = refl
-front-length (suc w) i f = ap suc (front-length w (suc i) f)
-
-front-at : (w i : ℕ) (f : ℕ → List ℕ) (p : ℕ) → p < w → getD (front-bytes w i f) p 0 ≡ getD (f (i + p)) 0 0
-front-at zero i f p h = absurd (omega arith)
-front-at (suc w) i f zero h = ap (λ (q : ℕ). getD (f q) 0 0) (let e : i ≡ i + 0 = omega arith in e)
-front-at (suc w) i f (suc p) h = front-at w (suc i) f p (omega arith) ∙ ap (λ (q : ℕ). getD (f q) 0 0) (let e : suc i + p ≡ i + suc p = omega arith in e)
-
-front-all : (w i : ℕ) (f : ℕ → List ℕ) → ((p : ℕ) → i ≤ p → p < i + w → Bytes (f p)) → Bytes (front-bytes w i f)
-front-all zero i f b = tt
-front-all (suc w) i f b = (byte-at (f i) 0 (b i (omega arith) (omega arith)), front-all w (suc i) f (λ p h l. b p (omega arith) (omega arith)))
-
-pub by-planes-length : (k w : ℕ) (f : ℕ → List ℕ) → length (by-planes k w f) ≡ k
-unfolding by-planes
-by-planes-length zero w f = refl
-by-planes-length (suc k) w f = ap suc (by-planes-length k w (λ p. drop 1 (f p)))
-
-pub by-planes-values : (k w : ℕ) (f : ℕ → List ℕ) → ((p : ℕ) → p < w → Bytes (f p)) → Values w (by-planes k w f)
-unfolding by-planes
-by-planes-values zero w f b = tt
-by-planes-values (suc k) w f b = (
-  front-length w 0 f,
-  front-all w 0 f (λ p h l. b p (omega arith)),
-  by-planes-values k w (λ p. drop 1 (f p)) (λ p h. bytes-drop 1 (f p) (b p h)),
-)
-
-pub by-planes-plane : (k w : ℕ) (f : ℕ → List ℕ) (p : ℕ) → p < w → length (f p) ≡ k → plane p (by-planes k w f) ≡ f p
-unfolding by-planes plane
-by-planes-plane zero w f p h l = sym (nothing (f p) l)
-  where
-    nothing : (bs : List ℕ) → length bs ≡ 0 → bs ≡ []
-    nothing [] e = refl
-    nothing (b ∷ bs) e = absurd (omega arith)
-by-planes-plane (suc k) w f p h l =
-    ap₂ _∷_ (front-at w 0 f p h ∙ ap (λ (q : ℕ). getD (f q) 0 0) (let e : 0 + p ≡ p = omega arith in e))
-    (by-planes-plane k w (λ q. drop 1 (f q)) p h (omega (arith, length-drop 1 (f p))))
-    ∙ again (f p) (omega arith)
-  where
-    again : (bs : List ℕ) → 1 ≤ length bs → getD bs 0 0 ∷ drop 1 bs ≡ bs
-    again [] e = absurd (omega arith)
-    again (b ∷ bs) e = refl

@@ -1,6 +1,6 @@
 -- What the repair calls answer and leave in the lent output. Assumes nothing: these are definitions.
 use mathlib.Core.Path.{_≡_}
-use mathlib.Core.Bool.{true, _||_, not, cond}
+use mathlib.Core.Bool.{_||_, not, cond}
 use mathlib.Core.List.{List}
 use mathlib.Core.Logic.{_⊎_}
 use Prim.Native.Nat.{ℕ, zero, suc, _*_}
@@ -8,7 +8,7 @@ use lib.Dec.{ltb, eqb}
 use lib.ListN.{length}
 use Rattle.arrays.specs.Array.{in-front}
 use Rattle.code.specs.Settings.{Settings, settings, settings-refusal, check-count, value-size}
-use Rattle.code.specs.Vector.{is-vector, are-checks, has-checks, glued}
+use Rattle.code.specs.Vector.{glued}
 use Rattle.code.specs.Repair.{Repaired, changed-places, No-repair}
 use Rattle.code.specs.Entry.{values-in}
 use Rattle.repair.specs.Difference.{plus-values, zeros}
@@ -62,18 +62,3 @@ Repair-by-as (suc n) s vs own cs r m o z = (r ≡ suc n) × (m ≡ 0) × (z ≡ 
 unfoldable pub Repair-by-says : (n t w : ℕ) → (vector own checks : List ℕ) → (answer changed : ℕ) → (out out-now : List ℕ) → Type 0
 Repair-by-says n t w vs own cs r m o z =
     Repair-by-as (repair-by-refusal (settings n t w) (length vs) (length own) (length cs) (length o)) (settings n t w) vs own cs r m o z
-
--- where the own checks are the vector's, both entries promise the same
-unfoldable pub By-own-checks : Type 0
-By-own-checks =
-    (s : Settings) (vs own cs : List (List ℕ)) (r m : ℕ) (o z : List ℕ) → is-vector s vs ≡ true → has-checks s vs own ≡ true → are-checks s cs ≡ true →
-    Done-by s vs own cs r m o z → Done s vs cs r m o z
-
--- each call has one outcome: two that keep its promise are the same, in the answer, in the count and in every lent byte
-pub record One-answer : Type 0 where
-  pub repairing :
-      (n t w : ℕ) (vector checks : List ℕ) (a b m k : ℕ) (out x y : List ℕ) → Repair-says n t w vector checks a m out x →
-      Repair-says n t w vector checks b k out y → (a ≡ b) × (m ≡ k) × (x ≡ y)
-  pub repairing-by :
-      (n t w : ℕ) (vector own checks : List ℕ) (a b m k : ℕ) (out x y : List ℕ) → Repair-by-says n t w vector own checks a m out x →
-      Repair-by-says n t w vector own checks b k out y → (a ≡ b) × (m ≡ k) × (x ≡ y)

@@ -1,3 +1,4 @@
 pub mod Difference
 pub mod Entry
+pub mod Promise
 pub mod Steps

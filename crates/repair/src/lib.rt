@@ -14,8 +14,8 @@ use code::sizes::CHECKS_ROOM;
 // The answer where some plane has no codeword near.
 const NONE: u32 = 256;
 
-// What repair answers: 0, or 256 for "none", or the refusal 1, 2, 3 or 18; and how many of the n + 2t places it changed, 0 where it
-// repaired nothing.
+// What repair answers: 0, or 256 for "none", or the refusal 1, 2, 3 or 18; and how many of the n + 2t places it changed, which is 0 for
+// "none" and for a refusal.
 #[repr(C)]
 pub struct Repaired {
     pub answer: u32,

@@ -29,7 +29,7 @@ use Rattle.grading.proofs.Value.{blank-size}
 use Rattle.record.specs.Frame.{checks-in}
 use Rattle.record.specs.Record.{Rec, found-as, counted, next-round}
 use Rattle.rounds.specs.Exchange.{Row, Table, Closed}
-use Rattle.rounds.specs.Promise.{No-mark}
+use Rattle.rounds.specs.Promise.{No-mark, Told-apart}
 
 -- n values, each of the size of a value
 pub record Sized (s : Settings) (vs : Vector) : Type 0 where
@@ -180,3 +180,10 @@ no-mark s vs cs us ds fine e f =
     let columns-few = few .few-columns in
     let bad-few = few .few-bad in
     (omega arith, omega arith)
+
+pub told-apart : Told-apart
+unfolding Told-apart No-mark Row
+told-apart s vs x row m fine e (inl (ds, repaired, count)) =
+    let few = no-mark s vs (checks-in s x) row ds fine e (checks-length s x) .0 in
+    (λ f. absurd (omega arith), λ f. absurd (omega arith), λ f. absurd (repaired-or-none s vs _ row ds repaired f))
+told-apart s vs x row m fine e (inr d) = (λ f. absurd (omega (arith, d .2)), λ f. d .0, λ f. d .2)

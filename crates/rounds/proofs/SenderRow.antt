@@ -24,7 +24,8 @@ use Rattle.arrays.proofs.Bytes.{Bytes}
 use Rattle.code.proofs.Vectors.Cut.{cut-length, cut-values, value-fits}
 use Rattle.code.proofs.ValidSettings.{values-fit, sizes}
 use Rattle.code.proofs.Vectors.Planes.{vector-of, values-back}
-use Rattle.repair.specs.Entry.{none-found, Done, Done-by, repair-refusal, repair-by-refusal, Repair-by-as, Repair-by-says, By-own-checks}
+use Rattle.repair.specs.Entry.{none-found, Done, Done-by, repair-refusal, repair-by-refusal, Repair-by-as, Repair-by-says}
+use Rattle.repair.specs.Promise.{By-own-checks}
 use Rattle.repair.proofs.Difference.ByOwnChecks.{by-own-checks}
 use Rattle.grading.specs.Value.{blank, blanks}
 use Rattle.grading.proofs.Value.{take-replicate}

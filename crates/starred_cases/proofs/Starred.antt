@@ -1,32 +1,40 @@
 -- Every starred case holds: antt works each of them out. Assumes nothing.
-use mathlib.Core.Path.{_≡_, refl, _∙_, ap₂}
-use mathlib.Core.Bool.{true, false}
+use mathlib.Core.Path.{_≡_, refl, _∙_, ap, ap₂}
+use mathlib.Core.Bool.{true, false, cond}
 use mathlib.Core.List.{List, [], _∷_}
+use mathlib.Core.Option.{Option, some}
 use Prim.Native.Nat.{ℕ, _+_, _*_, _≤_}
 use native.Mathlib.Omega.{arith}
-use lib.Dec.{ltb}
+use lib.Dec.{ltb, leb, eqb}
 use lib.IntN.{ℤ}
 use lib.ListN.{length}
+use borrow.Author.Tests.{eqb-true, leb-true}
 use Rattle.field.specs.Field.{plus, xor-from, doubled, times, times-from, power, inverse}
 use Rattle.field.proofs.Power.{doublings, power-doublings}
 use Rattle.code.specs.Settings.{settings, settings-refusal, check-count, value-size}
 use Rattle.code.specs.Polynomial.{root, eval, added, scaled, times-factor, generator}
 use Rattle.code.specs.Plane.{byte-list}
-use Rattle.code.specs.Vector.{plane, each-long, is-vector, are-checks, same, differ-values}
+use Rattle.code.specs.Vector.{plane, each-long, is-vector, are-checks, same, differ-values, cut}
+use Rattle.code.specs.Entry.{values-in}
 use Rattle.code.specs.Promise.{Repairs}
 use Rattle.code.proofs.Codewords.Quick.{quick-summed, quick-zero-from, quick-word, quick-planes-from, quick-checks, checks-quick}
 use Rattle.code.proofs.Tests.{all-from}
 use Rattle.code.proofs.Vectors.Planes.{repairs}
 use Rattle.locator.specs.Locator.{massey, start, changed, longer, as-long, against, raised, quotient, value}
 use Rattle.locator.specs.Errors.{place-exponent}
+use Rattle.record.specs.Frame.{checks-in}
+use Rattle.record.specs.Record.{Rec, who-as, found-as, taken-at, counted, next-round}
+use Rattle.rounds.specs.Exchange.{Closed}
+use Rattle.rounds.proofs.Rows.{closed-unique}
 use Rattle.gradecast.specs.Promise.{holds}
 use Rattle.gradecast.proofs.Cases.{three-refused, four-opens, alone-holds, alone-finishes, alone-ends-in-four}
 use Rattle.gradecast.proofs.Testing.NoneNear.{quick-sum, right-at, plane-none, none-from, quick-none, none-quick}
-use Rattle.grading.specs.Value.{is-blank}
+use Rattle.gradecast.proofs.Testing.Table.{row-of, told-of, row-test, table-row, table-of, told-at, told-by, table-test, table-tested}
+use Rattle.grading.specs.Value.{Vector, is-blank, entries}
 use Rattle.grading.specs.Held.{Held, held-as}
 use Rattle.record.proofs.Refusal.{line-passed, first-of-next, first-of-last}
 use Rattle.level.specs.Level.{bits, signed, height, confident, placed, ascending, dropped, needed, without-ends, left, halved, middle, level-of, width-refusal, few-refusal, level-refusal}
-use Rattle.starred_cases.specs.Cases.{product, generator-is, checks-are, repaired-is, opening, alone-ends, none-near, level-is, Starred-cases, starred, All-hold, Alone, Finishes, Holds, single, held-bytes, held-blank}
+use Rattle.starred_cases.specs.Cases.{product, generator-is, checks-are, repaired-is, opening, alone-ends, none-near, told-in-two, level-is, Starred-cases, starred, All-hold, Alone, Finishes, in-round-two, Holds, single, held-bytes, held-blank}
 
 -- the first two roots, by doublings, and the generator by them
 root-first : root 0 ≡ 225
@@ -70,6 +78,28 @@ none-case :
 unfolding Holds
 none-case n t vs cs r e = none-quick (settings n t 1) (single vs) (single cs) r e
 
+-- the rows that columns 2, 3 and 4 give column 1 of the exchange of 004
+rows-in-two : ℕ → Option Vector
+rows-in-two k =
+    some
+    (single
+    (cond (eqb k 2) (241 ∷ 86 ∷ 35 ∷ 35 ∷ []) (cond (eqb k 3) (241 ∷ 86 ∷ 35 ∷ 40 ∷ []) (241 ∷ 49 ∷ 35 ∷ 35 ∷ []))))
+
+-- a table of round two that passes the test, and no other
+told-case :
+    (n t k : ℕ) (vs : List ℕ) (fs : List (Option (List ℕ))) (ms : List ℕ) (claims : ℕ → Option Vector) → settings-refusal (settings n t 1) ≡ 0 →
+    leb 1 k ≡ true → leb k n ≡ true → eqb (length (single vs)) n ≡ true → table-test (in-round-two n t k vs fs) (single vs) claims ≡ true →
+    told-by (in-round-two n t k vs fs) (single vs) claims ≡ ms → Holds (told-in-two n t k vs fs ms)
+unfolding Holds Closed in-round-two who-as found-as next-round settings
+told-case n t k vs fs ms claims fine low high many tested told =
+    (first, λ q c. ap (λ (z : Rec). z .found .told-two) (closed-unique 2 r q (first .0) fine (leb-true 1 k low) (λ e. eqb-true _ _ many) (λ e. absurd (omega arith)) c (first .1)) ∙ told)
+  where
+    r : Rec
+    r = in-round-two n t k vs fs
+
+    first : (q : Rec) × Closed 2 r q
+    first = (_, (_, _, table-tested r (single vs) claims fine (leb-true 1 k low) (leb-true k n high) tested, refl))
+
 opens-case : Holds (opening 4 1 1 (7 ∷ []) 0)
 unfolding Holds is-blank
 opens-case = four-opens 1 1 (7 ∷ []) (omega arith) (omega arith) (omega arith) (omega arith) refl refl
@@ -100,6 +130,7 @@ unfolding Starred-cases starred All-hold single times times-from doubled plus xo
     quick-word quick-zero-from quick-summed quick-none none-from plane-none right-at quick-sum all-from massey start changed longer as-long
     against raised quotient value place-exponent eval added scaled power inverse are-checks each-long byte-list plane settings-refusal is-vector same differ-values
     held-bytes held-blank held-as bits signed height confident placed ascending without-ends halved middle
+    rows-in-two in-round-two who-as found-as taken-at counted checks-in values-in cut row-of told-of row-test table-row table-of told-at told-by table-test entries
 starred-cases = (
   product-case _ _ _ refl,
   (
@@ -110,7 +141,7 @@ starred-cases = (
         checks-case _ _ _ _ refl,
         (
           checks-case _ _ _ _ refl,
-          (repaired-case _ _ _ _ _ _ refl refl refl refl refl (omega arith), (repaired-case _ _ _ _ _ _ refl refl refl refl refl (omega arith), (repaired-case _ _ _ _ _ _ refl refl refl refl refl (omega arith), (repaired-case _ _ _ _ _ _ refl refl refl refl refl (omega arith), (none-case _ _ _ _ refl refl, (opens-case, (refused-case, (alone-case, (level-case _ _ _ _ _ refl refl refl, (level-case _ _ _ _ _ refl refl refl, tt)))))))))),
+          (repaired-case _ _ _ _ _ _ refl refl refl refl refl (omega arith), (repaired-case _ _ _ _ _ _ refl refl refl refl refl (omega arith), (none-case _ _ _ _ refl refl, (told-case _ _ _ _ _ _ rows-in-two refl refl refl refl refl refl, (opens-case, (refused-case, (alone-case, (level-case _ _ _ _ _ refl refl refl, (level-case _ _ _ _ _ refl refl refl, tt))))))))),
         ),
       ),
     ),

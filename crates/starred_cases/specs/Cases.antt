@@ -2,7 +2,8 @@
 use mathlib.Core.Path.{_≡_}
 use mathlib.Core.Bool.{true}
 use mathlib.Core.List.{List, [], _∷_}
-use Prim.Native.Nat.{ℕ}
+use mathlib.Core.Option.{Option, none, some}
+use Prim.Native.Nat.{ℕ, _-_}
 use lib.IntN.{ℤ, pos, negsuc}
 use lib.ListN.{length, getD}
 use Rattle.field.specs.Field.{times}
@@ -11,8 +12,9 @@ use Rattle.code.specs.Polynomial.{generator}
 use Rattle.code.specs.Vector.{has-checks}
 use Rattle.code.specs.Repair.{Repaired, changed-places, No-repair}
 use Rattle.grading.specs.Held.{Held, held-as}
-use Rattle.record.specs.Record.{Rec, opened}
+use Rattle.record.specs.Record.{Rec, who-as, found-as, no-frames, opened}
 use Rattle.record.specs.Refusal.{open-refusal, ask-refusal}
+use Rattle.rounds.specs.Exchange.{Closed}
 use Rattle.column.specs.Call.{Call, Run}
 use Rattle.gradecast.specs.Promise.{none-held}
 use Rattle.level.specs.Level.{confident, level-of, level-refusal}
@@ -36,6 +38,7 @@ pub data Case : Type 0 where
   checks-are : (n t : ℕ) → (vector checks : List ℕ) → Case
   repaired-is : (n t : ℕ) → (vector checks repaired : List ℕ) → (changed : ℕ) → Case
   none-near : (n t : ℕ) → (vector checks : List ℕ) → Case
+  told-in-two : (n t number : ℕ) → (vector : List ℕ) → (frames : List (Option (List ℕ))) → (told : List ℕ) → Case
   opening : (n t number : ℕ) → (own : List ℕ) → (answer : ℕ) → Case
   alone-ends : (own : List ℕ) → (confidence : ℕ) → Case
   level-is : (n t : ℕ) → (held : List Held) → (heights : List ℤ) → (level : ℤ) → Case
@@ -48,6 +51,18 @@ Alone run v calls last = Run (opened (settings 1 0 (length v)) 1 run v) calls la
 unfoldable pub Finishes : (run : ℕ) → (own : List ℕ) → Type 0
 Finishes run v = (calls : List Call) × (last : Rec) × Alone run v calls last
 
+-- a column in round two, with V and the operands of the frames of that round
+unfoldable pub in-round-two : (n t number : ℕ) → (vector : List ℕ) → (frames : List (Option (List ℕ))) → Rec
+in-round-two n t k vs fs =
+    record {
+      who = who-as (settings n t 1) k 0 (getD (single vs) (k - 1) []);
+      frames = fs;
+      early = no-frames (settings n t 1);
+      found = found-as (single vs) [] [] [] [];
+      round = 2;
+      refused = 0;
+    }
+
 -- what a case says
 unfoldable pub Holds : Case → Type 0
 Holds (product a b c) = times a b ≡ c
@@ -56,6 +71,8 @@ Holds (checks-are n t vs cs) = has-checks (settings n t 1) (single vs) (single c
 Holds (repaired-is n t vs cs us m) =
     (ds : List (List ℕ)) × Repaired (settings n t 1) (single vs) (single cs) (single us) ds × (changed-places (single vs) (single cs) (single us) ds ≡ m)
 Holds (none-near n t vs cs) = No-repair (settings n t 1) (single vs) (single cs)
+Holds (told-in-two n t k vs fs ms) =
+    ((q : Rec) × Closed 2 (in-round-two n t k vs fs) q) × ((q : Rec) → Closed 2 (in-round-two n t k vs fs) q → q .found .told-two ≡ ms)
 Holds (opening n t k v a) = open-refusal (settings n t (length v)) k v ≡ a
 Holds (alone-ends v c) = (run : ℕ) → Finishes run v × ((calls : List Call) (last : Rec) → Alone run v calls last → getD (last .found .held) 0 none-held ≡ held-as v c)
 Holds (level-is n t held hs l) =
@@ -70,11 +87,10 @@ starred =
     ∷ checks-are 4 1 (241 ∷ 86 ∷ 35 ∷ 40 ∷ []) (82 ∷ 30 ∷ [])
     ∷ checks-are 4 1 (241 ∷ 86 ∷ 35 ∷ 0 ∷ []) (8 ∷ 182 ∷ [])
     ∷ repaired-is 4 1 (241 ∷ 86 ∷ 35 ∷ 35 ∷ []) (0 ∷ 136 ∷ []) (241 ∷ 86 ∷ 129 ∷ 35 ∷ []) 1
-    -- what columns 2, 3 and 4 send to column 1 in round two: with its own row, 0, 0, 1, 1
-    ∷ repaired-is 4 1 (241 ∷ 86 ∷ 35 ∷ 35 ∷ []) (39 ∷ 78 ∷ []) (241 ∷ 86 ∷ 35 ∷ 35 ∷ []) 0
-    ∷ repaired-is 4 1 (241 ∷ 86 ∷ 35 ∷ 35 ∷ []) (82 ∷ 30 ∷ []) (241 ∷ 86 ∷ 35 ∷ 40 ∷ []) 1
     ∷ repaired-is 4 1 (241 ∷ 86 ∷ 35 ∷ 35 ∷ []) (22 ∷ 61 ∷ []) (241 ∷ 49 ∷ 35 ∷ 35 ∷ []) 1
     ∷ none-near 4 1 (241 ∷ 86 ∷ 35 ∷ 35 ∷ []) (22 ∷ 77 ∷ [])
+    -- column 1 of the exchange of 004, with what columns 2, 3 and 4 send to it
+    ∷ told-in-two 4 1 1 (241 ∷ 86 ∷ 35 ∷ 35 ∷ []) (none ∷ some (39 ∷ 78 ∷ []) ∷ some (82 ∷ 30 ∷ []) ∷ some (22 ∷ 61 ∷ []) ∷ []) (0 ∷ 0 ∷ 1 ∷ 1 ∷ [])
     ∷ opening 4 1 1 (7 ∷ []) 0
     ∷ opening 3 1 1 (7 ∷ []) 2
     ∷ alone-ends (7 ∷ []) 2

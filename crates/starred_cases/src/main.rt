@@ -43,6 +43,29 @@ fn repaired_by(checks: [u8; 2]) {
     print_answer(repaired.changed);
 }
 
+fn print_told(told: [u8; 32]) {
+    let of_four = [told[0], told[1], told[2], told[3]];
+    io::write_all(STDOUT_FILENO, b"told");
+    print_bytes(&of_four);
+}
+
+// Column 1 of the exchange of 004 in round two, whose closing tells it of all four.
+fn told_in_two() {
+    let opening = column::open(4, 1, 1, 1, 7, b"\xf1");
+    let two = column::take(opening.column, 2, b"\x11\x02\x00\x07\x56");
+    let three = column::take(two.column, 3, b"\x11\x03\x00\x07\x23");
+    let four = column::take(three.column, 4, b"\x11\x04\x00\x07\x23");
+    let one = column::close(four.column);
+    let second = column::take(one.column, 2, b"\x22\x02\x00\x07\x27\x4e");
+    let third = column::take(second.column, 3, b"\x22\x03\x00\x07\x52\x1e");
+    let fourth = column::take(third.column, 4, b"\x22\x04\x00\x07\x16\x3d");
+    let closed = column::close(fourth.column);
+    let column = closed.column;
+    let found = column.found;
+    let told = found.told_two;
+    print_told(told);
+}
+
 fn opened(n: u32) {
     let outcome = column::open(n, 1, 1, 1, 0, b"\x07");
     io::write_all(STDOUT_FILENO, b"opening ");
@@ -119,10 +142,9 @@ fn main() {
     checks_of([241, 86, 35, 40]);
     checks_of([241, 86, 35, 0]);
     repaired_by([0, 136]);
-    repaired_by([39, 78]);
-    repaired_by([82, 30]);
     repaired_by([22, 61]);
     repaired_by([22, 77]);
+    told_in_two();
     opened(4);
     opened(3);
     alone();

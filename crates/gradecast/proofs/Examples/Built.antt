@@ -56,8 +56,8 @@ pub record Answers-agree (g h x : Built) : Type 0 where
   pub g-done : g-answer .answer ≡ 0
   pub h-done : h-answer .answer ≡ 0
   pub agree : Agree 4 (answered four g-answer) (answered four h-answer) (x .number) (x .own)
-  pub two : Few-told 1 (g-answer .«told_two») (x .number)
-  pub three : Few-told 1 (g-answer .«told_three») (x .number)
+  pub two : Few-told 1 (g-answer .«told_two») (g .number) (x .number)
+  pub three : Few-told 1 (g-answer .«told_three») (g .number) (x .number)
 
 pub results-agree : (g h x : Built) → Among g columns → Among h columns → Among x columns → Answers-agree g h x
 unfolding Built-gradecast Built-told
@@ -74,8 +74,8 @@ results-agree g h x i j l =
       g-done = both .0;
       h-done = both .1;
       agree = both .2;
-      two = subst (λ (m : ℕ). Few-told m (a .0 .«told_two») (x .number)) one-bad (told .1);
-      three = subst (λ (m : ℕ). Few-told m (a .0 .«told_three») (x .number)) one-bad (told .2);
+      two = subst (λ (m : ℕ). Few-told m (a .0 .«told_two») (g .number) (x .number)) one-bad (told .1);
+      three = subst (λ (m : ℕ). Few-told m (a .0 .«told_three») (g .number) (x .number)) one-bad (told .2);
     }
 
 -- every call of each answers as it is listed

@@ -60,12 +60,12 @@ pub columns-agree :
 unfolding Gradecast
 columns-agree ps m g h x i j l = gradecast four 7 (goods ps) g h x (m .conditions) i j l (m .finished g i) (m .finished h j)
 
--- the listing that 01 prints: column 3 is less sure of column 4
+-- the listing that 01 prints: column 3 is less sure of column 4; and what rounds two and three told, column 1 0, 0, 1, 1 in both
 pub listing : map (λ g. g .last .found) (goods printed-scripts) ≡ holding printed 1 35 2 ∷ holding printed 2 35 2 ∷ holding printed 3 35 1 ∷ []
 unfolding goods computed printed-outcome
 listing = ap (λ (o : Outcome). o .found) (outcomes .0)
 
--- with refusals, "none" and a missing frame, column 3 knows nothing of column 4
+-- with refusals, "none" and a missing frame, column 3 knows nothing of column 4; and what the two rounds told, which differ for all three
 pub rough-listing : map (λ g. g .last .found) (goods rough-scripts) ≡ holding rough 1 35 1 ∷ holding rough 2 35 1 ∷ holding rough 3 0 0 ∷ []
 unfolding goods computed rough-outcome
 rough-listing = ap (λ (o : Outcome). o .found) (outcomes .1)

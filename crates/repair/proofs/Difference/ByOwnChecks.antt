@@ -3,7 +3,8 @@
 use mathlib.Core.Logic.{inl, inr}
 use mathlib.Core.Path.{_∙_}
 use Rattle.repair.specs.Difference.{plus-values}
-use Rattle.repair.specs.Entry.{Done, Done-by, By-own-checks}
+use Rattle.repair.specs.Entry.{Done, Done-by}
+use Rattle.repair.specs.Promise.{By-own-checks}
 use Rattle.repair.proofs.Difference.OwnVector.{repaired-plus, changed-plus, no-repair-plus}
 
 pub by-own-checks : By-own-checks

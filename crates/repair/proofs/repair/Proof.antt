@@ -12,7 +12,7 @@ use Rattle.code.specs.Vector.{has-checks}
 use Rattle.code.specs.Entry.{values-in}
 use Rattle.arrays.proofs.Bytes.{bytes-every}
 use Rattle.code.proofs.ValidSettings.{check-room, sizes}
-use Rattle.repair.specs.Entry.{By-own-checks}
+use Rattle.repair.specs.Promise.{By-own-checks}
 use Rattle.repair.proofs.Difference.ByOwnChecks.{by-own-checks}
 use Rattle.repair.proofs.Difference.OwnChecks.{own-checks, is-vector-in, are-checks-in}
 use Rattle.repair.proofs.Entry.{Accepted, accepted, repair-refused, repair-done}
