@@ -5,7 +5,12 @@
 
 A case: n, t, w, the own number, the round and the answer (4 bytes each, high byte first); the level and the correction, each
 as a byte that is 1 for a negative number and a magnitude of 4 bytes; the own value (8 bytes); 32 values of 4 bytes; 32
-confidences. The level is worked out here with Python's own integers, minimum, maximum and division, which rounds down.
+confidences.
+
+The level is that of Ask 3 of the change requests: where b of the n columns are at confidence 0, the t-b lowest and the t-b
+highest of the other heights are dropped, and half of the sum of the lowest and the highest left, rounded down, is the level;
+with b above t the call is refused 22. It is worked out here with Python's own integers, minimum, maximum and division, which
+rounds down.
 """
 import random
 import struct
@@ -13,11 +18,11 @@ from collections import Counter
 from pathlib import Path
 
 LOWEST, HIGHEST = -(2**31), 2**31 - 1
-draw = random.Random(20261115)
+draw = random.Random(20261116)
 
 
 def refusal(case):
-    n, t, w, held = case["n"], case["t"], case["w"], confident(case)
+    n, t, w = case["n"], case["t"], case["w"]
     lines = [
         (1, not 1 <= n <= 32),
         (2, n < 3 * t + 1),
@@ -26,9 +31,14 @@ def refusal(case):
         (6, not any(case["own"][:w])),
         (17, case["round"] != 4),
         (21, w != 4),
-        (22, len(held) < 2 * t + 1),
+        (22, blanks(case) > t),
     ]
     return next((number for number, applies in lines if applies), 0)
+
+
+def blanks(case):
+    """Ask 3's b: how many of the n columns are at confidence 0."""
+    return case["confidences"][: case["n"]].count(0)
 
 
 def confident(case):
@@ -42,7 +52,7 @@ def outcome(case):
     if answer:
         return answer, 0, 0
     kept = confident(case)
-    for _ in range(case["t"]):
+    for _ in range(case["t"] - blanks(case)):
         kept.remove(min(kept))
         kept.remove(max(kept))
     level = (min(kept) + max(kept)) // 2
@@ -66,8 +76,13 @@ HEIGHTS = {
 }
 
 
+def own_height():
+    """Any but 0, which is blank."""
+    return draw.choice([LOWEST, HIGHEST, -1, 1, draw.randint(LOWEST, -1), draw.randint(1, HIGHEST)])
+
+
 def case_of(n, t, heights, confidences, own=None, w=4, number=None, round=4):
-    own = own if own is not None else struct.pack(">i", draw.choice([LOWEST, HIGHEST, -1, 1, draw.randint(LOWEST, -1)]))
+    own = own if own is not None else struct.pack(">i", own_height())
     return {
         "n": n,
         "t": t,
@@ -80,10 +95,10 @@ def case_of(n, t, heights, confidences, own=None, w=4, number=None, round=4):
     }
 
 
-def marked(n, many):
-    """Confidences of which so many are above 0; one of 16 is of a damaged record."""
-    above = set(draw.sample(range(n), many))
-    return [draw.choice([1, 2] * 8 + [255]) if j in above else 0 for j in range(n)]
+def marked(n, blank):
+    """Confidences of which so many are 0, in any places; of the others one of 17 is of a damaged record."""
+    places = set(draw.sample(range(n), blank))
+    return [0 if j in places else draw.choice([1, 2] * 8 + [255]) for j in range(n)]
 
 
 def groups():
@@ -97,36 +112,55 @@ def groups():
     yield 32, 0
 
 
-def cases():
+def counts_of_blanks(n, t):
+    """None, those about t, where the answer turns, and all; then any at most t, and any."""
+    about = {0, t - 1, t, t + 1, n} - {-1}
+    return sorted(about) + [draw.randint(0, t), draw.randint(0, n)]
+
+
+def of_every_group():
     for n, t in groups():
         for kind in HEIGHTS.values():
-            counts = [2 * t + 1, 2 * t, n] + [draw.randint(0, n) for _ in range(3)]
-            for many in counts:
-                yield case_of(n, t, [kind() for _ in range(n)], marked(n, many))
+            for blank in counts_of_blanks(n, t):
+                yield case_of(n, t, [kind() for _ in range(n)], marked(n, blank))
         equal = draw.choice([LOWEST, HIGHEST, -7, 1])
-        yield case_of(n, t, [equal] * n, marked(n, n))
-        yield case_of(n, t, [LOWEST, HIGHEST] * n, marked(n, n), own=struct.pack(">i", LOWEST))
-        yield case_of(n, t, [LOWEST] * n, marked(n, n), own=struct.pack(">i", HIGHEST))
-        yield case_of(n, t, [HIGHEST] * n, marked(n, n), own=struct.pack(">i", LOWEST))
-    for total in range(-40, 41):  # halves of every small number
-        low = draw.randint(-50, 50)
-        yield case_of(2, 0, [low, total - low], [2, 1])
-    yield case_of(4, 1, [1000, 1004, 1010, 0], [2, 2, 1, 0], own=struct.pack(">i", 1000))
-    yield case_of(2, 0, [-5, -2], [2, 2], own=struct.pack(">i", -5))
-    for _ in range(1200):  # lines of the refusals that apply together
+        for heights, own in [
+            ([equal], None),
+            ([LOWEST, HIGHEST], struct.pack(">i", LOWEST)),
+            ([LOWEST], struct.pack(">i", HIGHEST)),
+            ([HIGHEST], struct.pack(">i", LOWEST)),
+        ]:
+            yield case_of(n, t, (heights * n)[:n], marked(n, draw.randint(0, t)), own=own)
+
+
+def of_refusals():
+    """Lines of the refusals that apply together."""
+    for _ in range(1200):
         n = draw.choice([0, 33, 2**32 - 1] + [draw.randint(1, 32)] * 12)
-        t = draw.choice([draw.randint(0, 12), 2**32 - 1, 1431655765] + [draw.randint(0, max(0, (min(n, 32) - 1) // 3))] * 12)
+        most = max(0, (min(n, 32) - 1) // 3)
+        t = draw.choice([draw.randint(0, 12), 2**32 - 1, 1431655765] + [draw.randint(0, most)] * 12)
         size = min(n, 32)
         yield case_of(
             n,
             t,
             [draw.choice(list(HEIGHTS.values()))() for _ in range(size)],
-            marked(size, draw.randint(0, size)),
+            marked(size, draw.choice([draw.randint(0, min(t, size)), draw.randint(0, size)])),
             own=draw.choice([bytes(4), bytes(4), None, None, None, None, None]),
             w=draw.choice([0, 9, 2**32 - 1, 1, 2, 3, 5, 6, 7, 8] + [4] * 20),
             number=draw.choice([0, n + 1 if n < 2**32 - 1 else 0] + [None] * 10),
             round=draw.choice([0, 1, 2, 3, 5, 2**32 - 1] + [4] * 20),
         )
+
+
+def cases():
+    yield from of_every_group()
+    for total in range(-40, 41):  # halves of every small number
+        low = draw.randint(-50, 50)
+        yield case_of(2, 0, [low, total - low], [2, 1])
+    yield from of_refusals()
+    # The two that the documents work out: a level of -4, and Ask 3's of 1005, which stands last, where a test changes it.
+    yield case_of(2, 0, [-5, -2], [2, 2], own=struct.pack(">i", -5))
+    yield case_of(4, 1, [1000, 1004, 1010, 0], [2, 2, 1, 0], own=struct.pack(">i", 1000))
 
 
 def main():

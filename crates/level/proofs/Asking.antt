@@ -3,7 +3,7 @@
 use mathlib.Core.Path.{_≡_, refl, sym, _∙_, ap, ap₂}
 use mathlib.Core.Bool.{not}
 use mathlib.Core.List.{List}
-use Prim.Native.Nat.{ℕ, _+_, _*_, _≤_, _<_}
+use Prim.Native.Nat.{ℕ, _+_, _-_, _≤_, _<_}
 use native.Mathlib.Omega.{arith}
 use lib.IntN.{ℤ, pos, _-ℤ_}
 use lib.ListN.{length, take}
@@ -18,10 +18,11 @@ use Rattle.column.specs.Entry.{Result-says}
 use Rattle.record.specs.declared.Column.{Column}
 use Rattle.record.specs.declared.Holdings.{Holdings}
 use Rattle.record.proofs.Refusal.{line-applies, line-passed, first-of-here, first-of-next, first-of-last, ask-settings}
-use Rattle.level.specs.Level.{height, confident, ascending, dropped, needed, without-ends, left, middle, level-of, correction-of, width-refusal, few-refusal, level-refusal}
+use Rattle.level.specs.Level.{height, confident, ascending, blank-columns, dropped, without-ends, left, middle, level-of, correction-of, width-refusal, blank-columns-refusal, level-refusal}
 use Rattle.level.specs.Entry.{Level-says}
 use Rattle.level.specs.Steps.Ends.{In-front, Sorted-in}
 use Rattle.level.proofs.Gathering.{front-length}
+use Rattle.level.proofs.Left.{blank-or-confident, held-columns}
 
 -- the lines
 pub asked-refused : (r : Rec) (answer : ℕ) → answer ≡ ask-refusal r → (answer ≡ 0 → ⊥) → answer ≡ level-refusal r
@@ -33,7 +34,7 @@ unfolding level-refusal width-refusal
 width-refused r e h =
     first-of-next _ e (first-of-here _ (line-applies 21 _ (ap not (ne-eqb (r .who .settings .w) 4 h))) (λ z. absurd (omega (arith, z))))
 
-last-line : (r : Rec) → ask-refusal r ≡ 0 → r .who .settings .w ≡ 4 → level-refusal r ≡ few-refusal (r .who .settings) (r .found .held)
+last-line : (r : Rec) → ask-refusal r ≡ 0 → r .who .settings .w ≡ 4 → level-refusal r ≡ blank-columns-refusal (r .who .settings) (r .found .held)
 unfolding level-refusal width-refusal
 last-line r e h = first-of-next _ e (first-of-next _ (line-passed 21 _ (ap not (eq-eqb (r .who .settings .w) 4 h))) (first-of-last _))
 
@@ -73,26 +74,37 @@ module _ (c : Column) (many : ℕ) (array : List ℤ) (s : Sorted-heights c many
   count : length (confident (view c .found .held)) ≡ many
   count = front-length many (confident (view c .found .held)) array (s .few) (s .front)
 
-  pub few-refused : many < 2 * c .who .t + 1 → level-refusal (view c) ≡ 22
-  unfolding few-refusal needed dropped view who-in who-as settings-of settings
-  few-refused h =
-      last-line (view c) (s .asked) (s .width)
-      ∙ line-applies 22 _ (lt-ltb (length (confident (view c .found .held))) (2 * c .who .t + 1) (omega (arith, count)))
+  -- a column is blank or its height is among those sorted
+  blank-or-sorted : blank-columns (view c .found .held) + many ≡ c .who .n
+  blank-or-sorted = omega (arith, count, blank-or-confident (view c .found .held), held-columns c (s .asked))
 
-  pub enough : 2 * c .who .t + 1 ≤ many → level-refusal (view c) ≡ 0
-  unfolding few-refusal needed dropped view who-in who-as settings-of settings
-  enough h =
+  pub some-columns : many ≤ c .who .n
+  some-columns = omega (arith, blank-or-sorted)
+
+  blank-count : c .who .n - many ≡ blank-columns (view c .found .held)
+  blank-count = omega (arith, blank-or-sorted)
+
+  pub blank-refused : c .who .t < c .who .n - many → level-refusal (view c) ≡ 22
+  unfolding blank-columns-refusal view who-in who-as settings-of settings
+  blank-refused h =
       last-line (view c) (s .asked) (s .width)
-      ∙ line-passed 22 _ (le-ltb (length (confident (view c .found .held))) (2 * c .who .t + 1) (omega (arith, count)))
+      ∙ line-applies 22 _ (lt-ltb (c .who .t) (blank-columns (view c .found .held)) (omega (arith, blank-count)))
+
+  pub not-refused : c .who .n - many ≤ c .who .t → level-refusal (view c) ≡ 0
+  unfolding blank-columns-refusal view who-in who-as settings-of settings
+  not-refused h =
+      last-line (view c) (s .asked) (s .width)
+      ∙ line-passed 22 _ (le-ltb (c .who .t) (blank-columns (view c .found .held)) (omega (arith, blank-count)))
 
   pub says-level :
-      (level correction : ℤ) → 2 * c .who .t + 1 ≤ many → level ≡ middle (without-ends (c .who .t) (take many array)) →
+      (level correction : ℤ) → c .who .n - many ≤ c .who .t → level ≡ middle (without-ends (c .who .t - (c .who .n - many)) (take many array)) →
       correction ≡ level -ℤ height (take 4 (c .who .own)) → Level-says c 0 level correction
   unfolding level-of correction-of left dropped view who-in who-as settings-of settings value-size
   says-level level correction h e k =
-      let done : level ≡ level-of (view c) = e ∙ ap (λ (hs : List ℤ). middle (without-ends (c .who .t) hs)) (s .front .front) in
+      let done : level ≡ level-of (view c .who .settings) (view c .found .held) =
+      e ∙ ap₂ (λ (b : ℕ) (hs : List ℤ). middle (without-ends (c .who .t - b) hs)) blank-count (s .front .front) in
       record {
-        answered = sym (enough h);
+        answered = sym (not-refused h);
         level-done = λ z. done;
         correction-done = λ z. k ∙ ap₂ (λ (l : ℤ) (w : ℕ). l -ℤ height (take w (c .who .own))) done (sym (s .width));
         level-refused = λ z. absurd (z refl);

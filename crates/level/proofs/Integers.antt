@@ -8,7 +8,7 @@ use native.Mathlib.Omega.{arith}
 use lib.Dec.{ltb}
 use lib.IntN.{ℤ, pos, negsuc, negℤ, subℕ, _+ℤ_, _-ℤ_}
 use lib.ListN.{getD}
-use lib.Signed.{mag, ltZ, quotZ}
+use lib.Signed.{mag, mag-shr, ltZ, quotZ}
 use mir.Syntax.{w64}
 use mir.Val.{SFits, toZ, ofZ}
 use mir.Facts.{toZ-ofZ}
@@ -63,8 +63,26 @@ quotient-fits a h = record { sfits = omega (arith, mag-quotient a, h .sfits) }
 pub stored : (a : ℤ) → mag a < 17179869184 → toZ w64 (ofZ w64 a) ≡ a
 stored a h = toZ-ofZ (fits a h)
 
-pub stored-sum : (a b : ℤ) → Short a → Short b → toZ w64 (ofZ w64 a) +ℤ toZ w64 (ofZ w64 b) ≡ a +ℤ b
-stored-sum a b h k = rw (stored a (omega arith), stored b (omega arith)) refl
+-- the sum of two numbers of 32 bits, and its half
+module _ (a b : ℤ) (first : Short a) (second : Short b) where
+  read-both : toZ w64 (ofZ w64 a) +ℤ toZ w64 (ofZ w64 b) ≡ a +ℤ b
+  read-both = rw (stored a (omega arith), stored b (omega arith)) refl
+
+  small-sum : mag (a +ℤ b) < 4294967296
+  small-sum = omega (arith, mag-sum a b)
+
+  pub sum-of-short : SFits w64 (toZ w64 (ofZ w64 a) +ℤ toZ w64 (ofZ w64 b))
+  sum-of-short = rw read-both (fits (a +ℤ b) (omega (arith, small-sum)))
+
+  pub read-sum : toZ w64 (ofZ w64 (toZ w64 (ofZ w64 a) +ℤ toZ w64 (ofZ w64 b))) ≡ a +ℤ b
+  read-sum = rw read-both (stored (a +ℤ b) (omega (arith, small-sum)))
+
+  pub small-read : mag (toZ w64 (ofZ w64 (toZ w64 (ofZ w64 a) +ℤ toZ w64 (ofZ w64 b)))) < 4294967296
+  small-read = rw read-sum small-sum
+
+  pub small-half : mag (halved (a +ℤ b)) < 4294967296
+  unfolding halved
+  small-half = omega (arith, mag-shr (a +ℤ b) 2, small-sum)
 
 -- a number below zero is made one less before it is divided
 pub halved-below : (a : ℤ) → ltZ a (pos 0) ≡ true → quotZ (a -ℤ pos 1) (pos 2) ≡ halved a

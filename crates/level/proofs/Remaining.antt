@@ -9,6 +9,10 @@ use lib.ListN.{length, getD, take, drop, length-drop}
 use lib.Seq.{getD-take, getD-drop, length-take-le}
 use Rattle.level.specs.Level.{without-ends, halved, middle}
 
+pub many-left : (d : ℕ) (hs : List ℤ) → 2 * d ≤ length hs → length (without-ends d hs) ≡ length hs - 2 * d
+unfolding without-ends
+many-left d hs enough = length-take-le (length hs - 2 * d) (drop d hs) (omega (arith, length-drop d hs))
+
 module _ (d many : ℕ) (array : List ℤ) (fits : many ≤ length array) (enough : 2 * d + 1 ≤ many) where
   heights : List ℤ
   heights = take many array
@@ -17,11 +21,8 @@ module _ (d many : ℕ) (array : List ℤ) (fits : many ≤ length array) (enoug
   unfolding heights
   many-heights = length-take-le many array fits
 
-  many-left : length (without-ends d heights) ≡ many - 2 * d
-  unfolding without-ends
-  many-left =
-      length-take-le (length heights - 2 * d) (drop d heights) (omega (arith, length-drop d heights))
-      ∙ ap (λ (k : ℕ). k - 2 * d) many-heights
+  so-many-left : length (without-ends d heights) ≡ many - 2 * d
+  so-many-left = many-left d heights (omega (arith, many-heights)) ∙ ap (λ (k : ℕ). k - 2 * d) many-heights
 
   left-at : (j i : ℕ) → j < many - 2 * d → d + j ≡ i → getD (without-ends d heights) j (pos 0) ≡ getD array i (pos 0)
   unfolding without-ends heights
@@ -37,4 +38,4 @@ module _ (d many : ℕ) (array : List ℤ) (fits : many ≤ length array) (enoug
       sym
       (ap halved
       (ap (λ (x : ℤ). x +ℤ getD (without-ends d heights) (length (without-ends d heights) - 1) (pos 0)) (left-at 0 low (omega arith) (omega arith))
-      ∙ ap (λ (x : ℤ). getD array low (pos 0) +ℤ x) (left-at (length (without-ends d heights) - 1) high (omega (arith, many-left)) (omega (arith, many-left)))))
+      ∙ ap (λ (x : ℤ). getD array low (pos 0) +ℤ x) (left-at (length (without-ends d heights) - 1) high (omega (arith, so-many-left)) (omega (arith, so-many-left)))))

@@ -9,7 +9,7 @@ use Rattle.level.specs.Level.{level-of, correction-of, level-refusal}
 -- `level`: the refusal that applies and two zeros, or 0 with the level and the correction
 pub record Level-says (c : Column) (answer : ℕ) (level correction : ℤ) : Type 0 where
   pub answered : answer ≡ level-refusal (view c)
-  pub level-done : answer ≡ 0 → level ≡ level-of (view c)
+  pub level-done : answer ≡ 0 → level ≡ level-of (view c .who .settings) (view c .found .held)
   pub correction-done : answer ≡ 0 → correction ≡ correction-of (view c)
   pub level-refused : (answer ≡ 0 → ⊥) → level ≡ pos 0
   pub correction-refused : (answer ≡ 0 → ⊥) → correction ≡ pos 0

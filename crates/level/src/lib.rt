@@ -20,13 +20,15 @@ pub fn level(column: Column) -> Level
         return answer::refused(21);
     }
     let n = who.n as usize;
-    let dropped = who.t as usize;
+    let t = who.t as usize;
     let values = held.values;
     let confidences = held.confidences;
     let sorted = ends::ascending(n, values, confidences);
-    if sorted.many < 2 * dropped + 1 {
+    let blank = n - sorted.many;
+    if blank > t {
         return answer::refused(22);
     }
+    let dropped = t - blank;
     let heights = sorted.heights;
     let level = ends::middle(heights, sorted.many, dropped);
     let own = who.own;

@@ -3,7 +3,7 @@ use mathlib.Core.Path.{_≡_, refl, _∙_, ap, ap₂}
 use mathlib.Core.Bool.{true, false, cond}
 use mathlib.Core.List.{List, [], _∷_}
 use mathlib.Core.Option.{Option, some}
-use Prim.Native.Nat.{ℕ, _+_, _*_, _≤_}
+use Prim.Native.Nat.{ℕ, _≤_}
 use native.Mathlib.Omega.{arith}
 use lib.Dec.{ltb, leb, eqb}
 use lib.IntN.{ℤ}
@@ -33,7 +33,7 @@ use Rattle.gradecast.proofs.Testing.Table.{row-of, told-of, row-test, table-row
 use Rattle.grading.specs.Value.{Vector, is-blank, entries}
 use Rattle.grading.specs.Held.{Held, held-as}
 use Rattle.record.proofs.Refusal.{line-passed, first-of-next, first-of-last}
-use Rattle.level.specs.Level.{bits, signed, height, confident, placed, ascending, dropped, needed, without-ends, left, halved, middle, level-of, width-refusal, few-refusal, level-refusal}
+use Rattle.level.specs.Level.{bits, signed, height, confident, placed, ascending, blank-columns, dropped, without-ends, left, halved, middle, level-of, width-refusal, blank-columns-refusal, level-refusal}
 use Rattle.starred_cases.specs.Cases.{product, generator-is, checks-are, repaired-is, opening, alone-ends, none-near, told-in-two, level-is, Starred-cases, starred, All-hold, Alone, Finishes, in-round-two, Holds, single, held-bytes, held-blank}
 
 -- the first two roots, by doublings, and the generator by them
@@ -112,16 +112,16 @@ alone-case : Holds (alone-ends (7 ∷ []) 2)
 unfolding Holds Finishes Alone holds
 alone-case run = ((_, _, (alone-finishes run, alone-ends-in-four run)), λ calls last a. alone-holds run calls last (a .0) (a .1))
 
--- the heights held, in ascending order, give the level
+-- not too many are blank, and the heights left give the level
 level-case :
-    (n t : ℕ) (held : List Held) (hs : List ℤ) (l : ℤ) → confident held ≡ hs → ltb (length hs) (2 * t + 1) ≡ false →
-    middle (without-ends t (ascending hs)) ≡ l → Holds (level-is n t held hs l)
-unfolding Holds level-refusal width-refusal few-refusal level-of left needed dropped settings
-level-case n t held hs l heights many level = (
+    (n t : ℕ) (held : List Held) (hs : List ℤ) (l : ℤ) → confident held ≡ hs → ltb t (blank-columns held) ≡ false → level-of (settings n t 4) held ≡ l →
+    Holds (level-is n t held hs l)
+unfolding Holds level-refusal width-refusal blank-columns-refusal settings
+level-case n t held hs l heights few level = (
   heights,
   λ r s h. (
-    λ asked. first-of-next _ asked (first-of-next _ (line-passed 21 _ (rw s refl)) (first-of-last _ ∙ line-passed 22 _ (rw (s, h, heights, many) refl))),
-    rw (s, h, heights) level,
+    λ asked. first-of-next _ asked (first-of-next _ (line-passed 21 _ (rw s refl)) (first-of-last _ ∙ line-passed 22 _ (rw (s, h, few) refl))),
+    rw (s, h) level,
   ),
 )
 
@@ -129,7 +129,7 @@ pub starred-cases : Starred-cases
 unfolding Starred-cases starred All-hold single times times-from doubled plus xor-from doublings settings check-count value-size quick-checks quick-planes-from
     quick-word quick-zero-from quick-summed quick-none none-from plane-none right-at quick-sum all-from massey start changed longer as-long
     against raised quotient value place-exponent eval added scaled power inverse are-checks each-long byte-list plane settings-refusal is-vector same differ-values
-    held-bytes held-blank held-as bits signed height confident placed ascending without-ends halved middle
+    held-bytes held-blank held-as bits signed height confident placed ascending blank-columns dropped without-ends left halved middle level-of
     rows-in-two in-round-two who-as found-as taken-at counted checks-in values-in cut row-of told-of row-test table-row table-of told-at told-by table-test entries
 starred-cases = (
   product-case _ _ _ refl,

@@ -77,7 +77,7 @@ Holds (opening n t k v a) = open-refusal (settings n t (length v)) k v ≡ a
 Holds (alone-ends v c) = (run : ℕ) → Finishes run v × ((calls : List Call) (last : Rec) → Alone run v calls last → getD (last .found .held) 0 none-held ≡ held-as v c)
 Holds (level-is n t held hs l) =
     (confident held ≡ hs)
-    × ((r : Rec) → r .who .settings ≡ settings n t 4 → r .found .held ≡ held → (ask-refusal r ≡ 0 → level-refusal r ≡ 0) × (level-of r ≡ l))
+    × ((r : Rec) → r .who .settings ≡ settings n t 4 → r .found .held ≡ held → (ask-refusal r ≡ 0 → level-refusal r ≡ 0) × (level-of (r .who .settings) (r .found .held) ≡ l))
 
 unfoldable pub starred : List Case
 starred =
@@ -94,7 +94,7 @@ starred =
     ∷ opening 4 1 1 (7 ∷ []) 0
     ∷ opening 3 1 1 (7 ∷ []) 2
     ∷ alone-ends (7 ∷ []) 2
-    ∷ level-is 4 1 (held-bytes 0 0 3 232 ∷ held-bytes 0 0 3 236 ∷ held-bytes 0 0 3 242 ∷ held-blank ∷ []) (pos 1000 ∷ pos 1004 ∷ pos 1010 ∷ []) (pos 1004)
+    ∷ level-is 4 1 (held-bytes 0 0 3 232 ∷ held-bytes 0 0 3 236 ∷ held-bytes 0 0 3 242 ∷ held-blank ∷ []) (pos 1000 ∷ pos 1004 ∷ pos 1010 ∷ []) (pos 1005)
     ∷ level-is 2 0 (held-bytes 255 255 255 251 ∷ held-bytes 255 255 255 254 ∷ []) (negsuc 4 ∷ negsuc 1 ∷ []) (negsuc 3)
     ∷ []
 

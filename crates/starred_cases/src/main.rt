@@ -122,7 +122,7 @@ fn levels() {
     values[7] = 236;
     values[10] = 3;
     values[11] = 242;
-    levelled(4, 1, values, confidences, 1004);
+    levelled(4, 1, values, confidences, 1005);
 }
 
 fn levels_below_zero() {

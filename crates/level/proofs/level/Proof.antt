@@ -10,7 +10,7 @@ use Rattle.record.specs.View.{settings-of, who-in, view}
 use Rattle.record.specs.Refusal.{ask-refusal}
 use Rattle.record.specs.declared.Column.{Column}
 use Rattle.level.proofs.Integers.{stored}
-use Rattle.level.proofs.Asking.{asked-refused, width-refused, asked-sizes, says-refused, Sorted-heights, sorted-heights, few-refused, says-level}
+use Rattle.level.proofs.Asking.{asked-refused, width-refused, asked-sizes, says-refused, Sorted-heights, sorted-heights, some-columns, blank-refused, says-level}
 use Rattle.level.proofs.level.Statement.{statement}
 use Rattle.level.proofs.level.Tie as tie
 
@@ -53,14 +53,6 @@ ascending-requires : tie.Need-ascending-requires
 unfolding column settings-of settings
 ascending-requires c κs = columns (past-asking (in-hand c)) .few-columns
 
-mul-if3 : tie.Need-mul-if3
-unfolding column settings-of settings
-mul-if3 c = omega (arith, columns (past-asking (in-hand (c .before))))
-
-add-if3 : tie.Need-add-if3
-unfolding column settings-of settings
-add-if3 c = omega (arith, columns (past-asking (in-hand (c .before))))
-
 -- the heights that `ascending` has sorted
 sorted : (c : tie.After-ascending) → Sorted-heights (column (past-asking (in-hand (c .before)))) (c .ascending .result .many) (c .ascending .result .heights)
 unfolding column
@@ -69,11 +61,15 @@ sorted c =
     let e = past-asking d in
     sorted-heights _ (e .before .before .result .result) _ _ (e .before .before .result .ensures) (e .if1 .left) (d .if2 .left) (c .ascending .ensures)
 
+sub-blank : tie.Need-sub-blank
+unfolding column
+sub-blank c = some-columns _ _ _ (sorted (c .before))
+
 returns-3 : tie.Need-returns-3
 unfolding column
 returns-3 c =
     let says = c .refused3 .ensures in
-    let few = few-refused _ _ _ (sorted (c .before .before .before)) (omega (arith, c .before .if3 .taken)) in
+    let few = blank-refused _ _ _ (sorted (c .before .before .before)) (omega (arith, c .before .if3 .taken)) in
     says-refused _ _ _ _ (says .0 ∙ sym few) (λ z. absurd (omega (arith, says .0))) (says .1) (says .2)
 
 -- enough of them
@@ -81,11 +77,11 @@ abbrev past-sorting : tie.Else3 → tie.After-ascending
 past-sorting c = c .before .before
 
 middle-requires : tie.Need-middle-requires
-unfolding column
+unfolding column settings-of settings
 middle-requires c κs =
     let enough = c .before in
     let heights = sorted (past-sorting enough) in
-    (heights .few, omega (arith, enough .if3 .left), record { room = heights .front .room; front = refl; short = heights .front .short })
+    (heights .few, omega (arith, columns (past-asking (in-hand (past-sorting enough .before))), some-columns _ _ _ heights, enough .if3 .left), record { room = heights .front .room; front = refl; short = heights .front .short })
 
 correction-requires : tie.Need-correction-requires
 correction-requires c κs = rw (stored (c .before .middle .result) (omega arith)) (c .before .middle .ensures .1)
@@ -112,8 +108,7 @@ level-spec =
     (λ c. search needs)
     (λ c. search needs)
     ascending-requires
-    mul-if3
-    add-if3
+    sub-blank
     (λ c κs. tt)
     returns-3
     middle-requires
