@@ -43,7 +43,7 @@ enum sajowemi_answer {
     SAJOWEMI_NOT_FINISHED = 17,
     SAJOWEMI_CODE_LENGTH = 18,
     SAJOWEMI_LEVEL_VALUE_SIZE = 21,
-    SAJOWEMI_LEVEL_TOO_FEW_VALUES = 22,
+    SAJOWEMI_LEVEL_TOO_MANY_BLANK = 22,
     SAJOWEMI_NONE = 256 /* of repair alone: no vector is near enough */
 };
 
@@ -120,7 +120,8 @@ struct sajowemi_holdings {
     uint8_t told_three[SAJOWEMI_MOST_COLUMNS];
 };
 
-/* The level of the group, and the level less the column's own height, in tenths of a millimetre. */
+/* The level of the group, halfway between the lowest and the highest height that are not dropped, and the level less the column's own
+ * height: how far to go, down where it is negative. Both in tenths of a millimetre; zeros for a refusal. */
 struct sajowemi_level {
     uint32_t answer;
     int64_t level;
@@ -155,7 +156,9 @@ struct sajowemi_outcome sajowemi_close(struct sajowemi_column column);
 /* What a column in round 4 believes, and what rounds two and three told it of each sender. Refused 1 to 4, 6 or 17, with zeros. */
 struct sajowemi_holdings sajowemi_result(struct sajowemi_column column);
 
-/* The level and the correction of a column in round 4 with w = 4. Refused 1 to 4, 6, 17, 21 or 22, with zeros. */
+/* The level and the correction of a column in round 4 with w = 4: values are heights, signed, high byte first. Where b columns are blank,
+ * at confidence 0, the t - b lowest and the t - b highest of the other heights are dropped, and the lowest and the highest left are added
+ * and halved, rounded down; 22 where b is above t. Refused 1 to 4, 6, 17, 21 or 22, with zeros. */
 struct sajowemi_level sajowemi_level(struct sajowemi_column column);
 
 /* The 2 t check values of a vector of n values, in front of the output. Refused 1 to 3 or 18. */
@@ -229,7 +232,7 @@ static inline const char *sajowemi_says(uint32_t answer) {
     case SAJOWEMI_NOT_FINISHED: return "the column has not finished its three rounds";
     case SAJOWEMI_CODE_LENGTH: return "the vector or the checks have not their length, or the output is too short";
     case SAJOWEMI_LEVEL_VALUE_SIZE: return "a level is there only of values of 4 bytes";
-    case SAJOWEMI_LEVEL_TOO_FEW_VALUES: return "too few values are believed to work out a level";
+    case SAJOWEMI_LEVEL_TOO_MANY_BLANK: return "more columns are blank, at confidence 0, than may be bad";
     case SAJOWEMI_NONE: return "no vector is near enough";
     default: return "no answer of this library";
     }

@@ -1,11 +1,17 @@
 #!/bin/sh
-# The examples in C and in Rust: both say what is stored in examples/group.txt.
+# The examples in C and in Rust: both say what is stored beside them.
 set -eu
 cd "$(dirname "$0")/.."
 . tests/shared/build.sh
-c_program examples/group.c target/tests/group_in_c
-target/tests/group_in_c | diff - examples/group.txt
+
+example() { # NAME: examples/NAME.c and examples/NAME.rs against examples/NAME.txt
+    c_program "examples/$1.c" "target/tests/$1_in_c"
+    "target/tests/$1_in_c" | diff - "examples/$1.txt"
+    rust "examples/$1.rs" "target/tests/$1" --extern sajowemi=target/tests/libsajowemi.rlib
+    "target/tests/$1" | diff - "examples/$1.txt"
+}
+
 rust_crate
-rust examples/group.rs target/tests/group --extern sajowemi=target/tests/libsajowemi.rlib
-target/tests/group | diff - examples/group.txt
-echo "examples: a group with one liar in C and in Rust, as stored"
+example group
+example level
+echo "examples: a group with one liar and a level beside a silent column, in C and in Rust, as stored"

@@ -1,5 +1,5 @@
-//! The safe crate: an exchange of four good columns, how far off senders were as a record has it, every refusal it can name, the size of a
-//! frame against what `send` writes, and the texts, which are those of the C header.
+//! The safe crate: an exchange of four good columns, how far off senders were as a record has it, the level where one column is silent,
+//! every refusal it can name, the size of a frame against what `send` writes, and the texts, which are those of the C header.
 
 use sajowemi::{
     Beliefs, Column, LONGEST_FRAME, Level, Refusal, Repair, Settings, Told, archive, check_values,
@@ -11,25 +11,32 @@ const NUMBERS: [u32; 20] = [
     1, 2, 3, 4, 5, 6, 7, 8, 9, 10, 11, 12, 13, 14, 15, 16, 17, 18, 21, 22,
 ];
 
+/// Each column takes the frames of the others, is looked at after each with the sender and the frame, and closes.
+fn one_round(group: &mut [Column], look: impl Fn(&mut Column, u32, &[u8])) {
+    let sent = group.to_vec();
+    for column in group {
+        let own = column.number();
+        for sender in sent.iter().filter(|sender| sender.number() != own) {
+            let mut buffer = [0; LONGEST_FRAME];
+            let frame = sender.send(&mut buffer).unwrap();
+            column.take(sender.number(), frame).unwrap();
+            look(column, sender.number(), frame);
+        }
+        column.close().unwrap();
+    }
+}
+
 fn exchange() {
     let heights = [241u8, 86, 35, 77];
     let mut group: Vec<Column> = (1..=4)
         .map(|k| Column::open(FOUR, k, 7, &heights[k as usize - 1..][..1]).unwrap())
         .collect();
     for round in 1..=3 {
-        let sent = group.clone();
-        for column in &mut group {
+        one_round(&mut group, |column, sender, frame| {
             assert_eq!(column.round(), round);
-            let own = column.number();
-            for sender in sent.iter().filter(|sender| sender.number() != own) {
-                let mut buffer = [0; LONGEST_FRAME];
-                let frame = sender.send(&mut buffer).unwrap();
-                assert_eq!(frame.len(), if round == 1 { 5 } else { 6 });
-                column.take(sender.number(), frame).unwrap();
-                assert_eq!(column.take(sender.number(), frame), Err(Refusal::Repeated));
-            }
-            column.close().unwrap();
-        }
+            assert_eq!(frame.len(), if round == 1 { 5 } else { 6 });
+            assert_eq!(column.take(sender, frame), Err(Refusal::Repeated));
+        });
     }
     for column in &group {
         let beliefs = column.result().unwrap();
@@ -103,12 +110,50 @@ fn level() {
         short.close().unwrap();
     }
     assert_eq!(short.level(), Err(Refusal::LevelValueSize));
-    let mut record = *alone.record();
-    record.found.confidences[0] = 0;
     assert_eq!(
-        Column::from_record(record).level(),
-        Err(Refusal::LevelTooFewValues)
+        level_by_hand(&alone, |record| record.found.confidences[0] = 0),
+        Err(Refusal::LevelTooManyBlank)
     );
+}
+
+/// The level of a column whose record was changed by hand.
+fn level_by_hand(column: &Column, change: impl Fn(&mut archive::Column)) -> Result<Level, Refusal> {
+    let mut record = *column.record();
+    change(&mut record);
+    Column::from_record(record).level()
+}
+
+/// Three heights and a fourth column that is silent: nothing is dropped. Then by hand: another one blank; one at confidence 1, which is not
+/// blank; a fifth column, blank too beside the three heights; the fourth far up, without a say while blank, and dropped with the lowest.
+fn level_beside_a_silent_column() {
+    let settings = Settings { n: 4, t: 1, w: 4 };
+    let mut group = [(1, 1000i32), (2, 1004), (3, 1010)]
+        .map(|(k, height)| Column::open(settings, k, 7, &height.to_be_bytes()).unwrap());
+    for _ in 1..=3 {
+        one_round(&mut group, |_, _, _| ());
+    }
+    let levels = |level: i64, correction: i64| Ok(Level { level, correction });
+    assert_eq!(
+        group.map(|column| column.level()),
+        [levels(1005, 5), levels(1005, 1), levels(1005, -5)]
+    );
+    let by_hand = |change: &dyn Fn(&mut archive::Column)| level_by_hand(&group[0], change);
+    let too_many = Err(Refusal::LevelTooManyBlank);
+    for k in 0..3 {
+        assert_eq!(by_hand(&|record| record.found.confidences[k] = 0), too_many);
+        assert_eq!(
+            by_hand(&|record| record.found.confidences[k] = 1),
+            levels(1005, 5)
+        );
+    }
+    assert_eq!(by_hand(&|record| record.who.n = 5), too_many);
+    for (confidence, expected) in [(0, levels(1005, 5)), (1, levels(1007, 7))] {
+        let far_up = |record: &mut archive::Column| {
+            record.found.values[12..16].copy_from_slice(&9999i32.to_be_bytes());
+            record.found.confidences[3] = confidence;
+        };
+        assert_eq!(by_hand(&far_up), expected);
+    }
 }
 
 fn code() {
@@ -257,6 +302,7 @@ fn main() {
     exchange();
     told();
     level();
+    level_beside_a_silent_column();
     code();
     refusals();
     let compared = frame_sizes();

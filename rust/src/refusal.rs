@@ -25,7 +25,7 @@ pub enum Refusal {
     NotFinished = 17,
     CodeLength = 18,
     LevelValueSize = 21,
-    LevelTooFewValues = 22,
+    LevelTooManyBlank = 22,
 }
 
 use Refusal::*;
@@ -52,7 +52,7 @@ const SAYS: [(Refusal, &str); 20] = [
     (NotFinished, "the column has not finished its three rounds"),
     (CodeLength, "the vector or the checks have not their length, or the output is too short"),
     (LevelValueSize, "a level is there only of values of 4 bytes"),
-    (LevelTooFewValues, "too few values are believed to work out a level"),
+    (LevelTooManyBlank, "more columns are blank, at confidence 0, than may be bad"),
 ];
 
 impl Refusal {
