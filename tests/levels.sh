@@ -1,7 +1,7 @@
 #!/bin/sh
-# The level and the correction against a model of Ask 3's rule, over records made by hand and after whole exchanges (levels.rs).
+# The level and the correction against a model of Ask 3's rule, over records made by hand and after whole exchanges (levels/).
 set -eu
 cd "$(dirname "$0")/.."
 . tests/shared/build.sh
-rust_program tests/levels.rs target/tests/levels
+rust_program tests/levels/main.rs target/tests/levels
 target/tests/levels
