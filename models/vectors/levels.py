@@ -159,8 +159,8 @@ def cases():
         yield case_of(2, 0, [low, total - low], [2, 1])
     yield from of_refusals()
     # The two that the documents work out: a level of -4, and Ask 3's of 1005, which stands last, where a test changes it.
-    yield case_of(2, 0, [-5, -2], [2, 2], own=struct.pack(">i", -5))
-    yield case_of(4, 1, [1000, 1004, 1010, 0], [2, 2, 1, 0], own=struct.pack(">i", 1000))
+    yield case_of(2, 0, [-5, -2], [2, 2], own=struct.pack(">i", -5), number=1)
+    yield case_of(4, 1, [1000, 1004, 1010, 0], [2, 2, 2, 0], own=struct.pack(">i", 1000), number=1)
 
 
 def main():

@@ -111,7 +111,7 @@ impl Column {
 
     /// The level of the group and the column's correction, of values that are heights: signed, of four bytes, high byte first. Where b
     /// columns are blank, at confidence 0, the t - b lowest and the t - b highest of the other heights are dropped, and the lowest and the
-    /// highest left are added and halved, rounded down. Refused where b is above t.
+    /// highest left are added and halved, rounded down. Refused where the column has not finished, where w is not 4, and where b is above t.
     pub fn level(&self) -> Result<Level, Refusal> {
         let archive::Level {
             answer,

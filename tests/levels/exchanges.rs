@@ -202,12 +202,12 @@ impl Group {
     }
 }
 
-/// What the exchanges came to, by which it is seen that they reach the rule: levels with blanks and with confidence 1, refusals where more
-/// than t are bad, and groups whose good columns have different levels.
+/// What the exchanges came to: levels with blanks and with confidence 1, refusals where more than t are bad, and groups whose good columns
+/// have different levels.
 #[derive(Default)]
 pub struct Exchanges {
     pub groups: u32,
-    pub levels: usize,
+    pub answers: usize,
     pub among: usize,
     pub with_blanks: usize,
     pub with_doubt: usize,
@@ -220,7 +220,7 @@ impl Exchanges {
         let n = group.n as usize;
         let bad = n - group.good.len();
         self.groups += 1;
-        self.levels += levels.len();
+        self.answers += levels.len();
         if bad <= group.t as usize {
             group.assert_among_good_heights(levels);
             self.among += levels.len();
@@ -234,6 +234,16 @@ impl Exchanges {
         }
         self.apart += u32::from(levels.iter().any(|found| found.level != levels[0].level));
     }
+
+    /// That the rule was reached: were none of a kind drawn, the comparison would say nothing of it.
+    fn assert_reached(&self) {
+        let of_each_kind = [self.with_blanks, self.with_doubt, self.refused];
+        assert!(
+            of_each_kind.iter().all(|&count| count > 0),
+            "{of_each_kind:?}"
+        );
+        assert!(self.apart > 0, "the good columns' levels are all alike");
+    }
 }
 
 /// Answers what they came to.
@@ -246,6 +256,7 @@ pub fn exchanges(chance: &mut Chance) -> Exchanges {
             exchanges.add(&group, &group.levels());
         }
     }
+    exchanges.assert_reached();
     exchanges
 }
 
@@ -266,12 +277,13 @@ pub fn worked(
         liars: vec![],
     };
     group.run(chance);
-    for (found, correction) in group.levels().into_iter().zip(corrections) {
-        let expected = Levelled {
+    let expected: Vec<Levelled> = corrections
+        .iter()
+        .map(|&correction| Levelled {
             answer: 0,
             level,
-            correction: *correction,
-        };
-        assert_eq!(found, expected, "the exchange of {heights:?}");
-    }
+            correction,
+        })
+        .collect();
+    assert_eq!(group.levels(), expected, "the exchange of {heights:?}");
 }

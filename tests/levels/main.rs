@@ -34,7 +34,7 @@ fn main() {
     let exchanges = exchanges::exchanges(&mut chance);
     let Exchanges {
         groups,
-        levels: after,
+        answers,
         among,
         with_blanks,
         with_doubt,
@@ -44,7 +44,7 @@ fn main() {
     println!(
         "levels: as the model has them: {levels} finished records, and {refusals} refused 22, over every n, t and count of blanks; {DAMAGED} \
          records of random bits, {undamaged} of them with a level, the others by the first line that applies; the two worked exchanges; \
-         {groups} exchanges with {after} levels, {with_blanks} of these with blanks, {with_doubt} with confidence 1, {refused} refused 22, \
+         {groups} exchanges with {answers} answers, {with_blanks} of these levels with blanks, {with_doubt} with confidence 1, {refused} refused 22, \
          in {apart} exchanges not all alike; {among} where at most t are bad lie between the lowest and the highest good height"
     );
 }

@@ -1,5 +1,5 @@
--- Integers: how large a sum and a negated number are, by cases on the signs; half of a number by a division that rounds toward zero;
--- and what 32 bits read as signed are. Assumes nothing.
+-- Integers: how large a sum and a negated number are, by cases on the signs; half of a number by a division that rounds toward zero; two
+-- numbers of 32 bits read, added and halved; and what 32 bits read as signed are. Assumes nothing.
 use mathlib.Core.Path.{_≡_, refl, ap}
 use mathlib.Core.Bool.{Bool, true, false, cond}
 use mathlib.Core.List.{[], _∷_}
@@ -25,7 +25,7 @@ mag-less a b = go (ltb a (suc b))
     go true = omega arith
     go false = omega arith
 
-pub mag-sum : (a b : ℤ) → mag (a +ℤ b) ≤ suc (mag a + mag b)
+mag-sum : (a b : ℤ) → mag (a +ℤ b) ≤ suc (mag a + mag b)
 mag-sum (pos a) (pos b) = omega arith
 mag-sum (pos a) (negsuc b) = mag-less a b
 mag-sum (negsuc a) (pos b) = let h = mag-less b a in omega arith
@@ -48,7 +48,7 @@ mag-quotient (negsuc a) = go a (suc a / 2) (omega arith)
     go a (suc q) h = omega arith
 
 -- 64 bits hold a sum or a difference of numbers of 33, and are read as they were written
-pub fits : (a : ℤ) → mag a < 17179869184 → SFits w64 a
+fits : (a : ℤ) → mag a < 17179869184 → SFits w64 a
 fits a h = record { sfits = omega arith }
 
 pub sum-fits : (a b : ℤ) → mag a < 4294967296 → mag b < 4294967296 → SFits w64 (a +ℤ b)
@@ -62,6 +62,17 @@ quotient-fits a h = record { sfits = omega (arith, mag-quotient a, h .sfits) }
 
 pub stored : (a : ℤ) → mag a < 17179869184 → toZ w64 (ofZ w64 a) ≡ a
 stored a h = toZ-ofZ (fits a h)
+
+-- a number below zero is made one less before it is divided
+pub halved-below : (a : ℤ) → ltZ a (pos 0) ≡ true → quotZ (a -ℤ pos 1) (pos 2) ≡ halved a
+unfolding halved
+halved-below (pos a) h = absurd (omega (arith, ltb-true a 0 h))
+halved-below (negsuc a) h = ap (λ (q : ℕ). negℤ (pos q)) (let e : suc (suc (a + 0)) / 2 ≡ suc (a / 2) = omega arith in e)
+
+pub halved-above : (a : ℤ) → ltZ a (pos 0) ≡ false → quotZ a (pos 2) ≡ halved a
+unfolding halved
+halved-above (pos a) h = refl
+halved-above (negsuc a) h = absurd (true-not-false h)
 
 -- the sum of two numbers of 32 bits, and its half
 module _ (a b : ℤ) (first : Short a) (second : Short b) where
@@ -83,17 +94,6 @@ module _ (a b : ℤ) (first : Short a) (second : Short b) where
   pub small-half : mag (halved (a +ℤ b)) < 4294967296
   unfolding halved
   small-half = omega (arith, mag-shr (a +ℤ b) 2, small-sum)
-
--- a number below zero is made one less before it is divided
-pub halved-below : (a : ℤ) → ltZ a (pos 0) ≡ true → quotZ (a -ℤ pos 1) (pos 2) ≡ halved a
-unfolding halved
-halved-below (pos a) h = absurd (omega (arith, ltb-true a 0 h))
-halved-below (negsuc a) h = ap (λ (q : ℕ). negℤ (pos q)) (let e : suc (suc (a + 0)) / 2 ≡ suc (a / 2) = omega arith in e)
-
-pub halved-above : (a : ℤ) → ltZ a (pos 0) ≡ false → quotZ a (pos 2) ≡ halved a
-unfolding halved
-halved-above (pos a) h = refl
-halved-above (negsuc a) h = absurd (true-not-false h)
 
 -- 32 bits
 pub signed-low : (b : ℕ) → b < 2147483648 → signed b ≡ pos b

@@ -9,9 +9,9 @@ use lib.ListN.{length, getD, take, drop, length-drop}
 use lib.Seq.{getD-take, getD-drop, length-take-le}
 use Rattle.level.specs.Level.{without-ends, halved, middle}
 
-pub many-left : (d : ℕ) (hs : List ℤ) → 2 * d ≤ length hs → length (without-ends d hs) ≡ length hs - 2 * d
+pub many-left : (d : ℕ) (hs : List ℤ) → length (without-ends d hs) ≡ length hs - 2 * d
 unfolding without-ends
-many-left d hs enough = length-take-le (length hs - 2 * d) (drop d hs) (omega (arith, length-drop d hs))
+many-left d hs = length-take-le _ _ (omega (arith, length-drop d hs))
 
 module _ (d many : ℕ) (array : List ℤ) (fits : many ≤ length array) (enough : 2 * d + 1 ≤ many) where
   heights : List ℤ
@@ -22,7 +22,7 @@ module _ (d many : ℕ) (array : List ℤ) (fits : many ≤ length array) (enoug
   many-heights = length-take-le many array fits
 
   so-many-left : length (without-ends d heights) ≡ many - 2 * d
-  so-many-left = many-left d heights (omega (arith, many-heights)) ∙ ap (λ (k : ℕ). k - 2 * d) many-heights
+  so-many-left = many-left d heights ∙ ap (λ (k : ℕ). k - 2 * d) many-heights
 
   left-at : (j i : ℕ) → j < many - 2 * d → d + j ≡ i → getD (without-ends d heights) j (pos 0) ≡ getD array i (pos 0)
   unfolding without-ends heights

@@ -119,10 +119,8 @@ level-case :
 unfolding Holds level-refusal width-refusal blank-columns-refusal settings
 level-case n t held hs l heights few level = (
   heights,
-  λ r s h. (
-    λ asked. first-of-next _ asked (first-of-next _ (line-passed 21 _ (rw s refl)) (first-of-last _ ∙ line-passed 22 _ (rw (s, h, few) refl))),
-    rw (s, h) level,
-  ),
+  level,
+  λ r s h asked. first-of-next _ asked (first-of-next _ (line-passed 21 _ (rw s refl)) (first-of-last _ ∙ line-passed 22 _ (rw (s, h, few) refl))),
 )
 
 pub starred-cases : Starred-cases

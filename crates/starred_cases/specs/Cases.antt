@@ -76,8 +76,8 @@ Holds (told-in-two n t k vs fs ms) =
 Holds (opening n t k v a) = open-refusal (settings n t (length v)) k v ≡ a
 Holds (alone-ends v c) = (run : ℕ) → Finishes run v × ((calls : List Call) (last : Rec) → Alone run v calls last → getD (last .found .held) 0 none-held ≡ held-as v c)
 Holds (level-is n t held hs l) =
-    (confident held ≡ hs)
-    × ((r : Rec) → r .who .settings ≡ settings n t 4 → r .found .held ≡ held → (ask-refusal r ≡ 0 → level-refusal r ≡ 0) × (level-of (r .who .settings) (r .found .held) ≡ l))
+    (confident held ≡ hs) × (level-of (settings n t 4) held ≡ l)
+    × ((r : Rec) → r .who .settings ≡ settings n t 4 → r .found .held ≡ held → ask-refusal r ≡ 0 → level-refusal r ≡ 0)
 
 unfoldable pub starred : List Case
 starred =

@@ -69,19 +69,19 @@ returns-3 : tie.Need-returns-3
 unfolding column
 returns-3 c =
     let says = c .refused3 .ensures in
-    let few = blank-refused _ _ _ (sorted (c .before .before .before)) (omega (arith, c .before .if3 .taken)) in
-    says-refused _ _ _ _ (says .0 ∙ sym few) (λ z. absurd (omega (arith, says .0))) (says .1) (says .2)
+    let many-blank = blank-refused _ _ _ (sorted (c .before .before .before)) (omega (arith, c .before .if3 .taken)) in
+    says-refused _ _ _ _ (says .0 ∙ sym many-blank) (λ z. absurd (omega (arith, says .0))) (says .1) (says .2)
 
--- enough of them
+-- not too many are blank
 abbrev past-sorting : tie.Else3 → tie.After-ascending
 past-sorting c = c .before .before
 
 middle-requires : tie.Need-middle-requires
 unfolding column settings-of settings
 middle-requires c κs =
-    let enough = c .before in
-    let heights = sorted (past-sorting enough) in
-    (heights .few, omega (arith, columns (past-asking (in-hand (past-sorting enough .before))), some-columns _ _ _ heights, enough .if3 .left), record { room = heights .front .room; front = refl; short = heights .front .short })
+    let passed = c .before in
+    let heights = sorted (past-sorting passed) in
+    (heights .few, omega (arith, columns (past-asking (in-hand (past-sorting passed .before))), some-columns _ _ _ heights, passed .if3 .left), record { room = heights .front .room; front = refl; short = heights .front .short })
 
 correction-requires : tie.Need-correction-requires
 correction-requires c κs = rw (stored (c .before .middle .result) (omega arith)) (c .before .middle .ensures .1)
@@ -90,11 +90,11 @@ returns-4 : tie.Need-returns-4
 unfolding column
 returns-4 c =
     let middle = c .before .before in
-    let enough = middle .before .before in
+    let passed = middle .before .before in
     let m = middle .middle in
     let e = stored (m .result) (omega arith) in
     rw (e, toZ-ofZ (record { sfits = c .correction .ok }))
-    (says-level _ _ _ (sorted (past-sorting enough)) (m .result) (c .correction .result) (enough .if3 .left) (m .ensures .0) (rw e at (c .correction .ensures)))
+    (says-level _ _ _ (sorted (past-sorting passed)) (m .result) (c .correction .result) (passed .if3 .left) (m .ensures .0) (rw e at (c .correction .ensures)))
 
 pub level-spec : {M : Type 1} → statement M
 level-spec =
