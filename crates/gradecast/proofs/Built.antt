@@ -63,9 +63,8 @@ conditions-follow s run bs c =
           (λ x o. each-map defined (λ (z : Good). (defined x .number ≡ z .number → ⊥) → Fair s run (defined x) z) bs (λ y p. c .fair x y o p) b n) a m;
     }
 
--- the result of a column that has finished
-module _ (s : Settings) (run : ℕ) (b : Built) (r : Built-ran s run b) (finished : b .last .round ≡ 4) (h : Holdings)
-    (result : Result-says (b .last) h) where
+-- a column that ran
+module _ (s : Settings) (run : ℕ) (b : Built) (r : Built-ran s run b) where
   opened-as : Opens s (b .number) (b .own)
   unfolding defined
   opened-as = opens-of s (b .number) (b .own) (ran-follows s run b r .opens)
@@ -76,26 +75,32 @@ module _ (s : Settings) (run : ℕ) (b : Built) (r : Built-ran s run b) (finishe
       proper-passes s (b .number) run (b .own) opened-as (proper-open s (b .number) run (b .own) opened-as)
       (run-passes (ran-follows s run b r .leads))
 
-  round-four : view (b .last) .round ≡ 4
-  unfolding view
-  round-four = finished
-
-  not-refused : h .answer ≡ 0
-  unfolding ask-refusal unfinished-refusal
-  not-refused =
-      result .answered
-      ∙ first-of-next _ (proper-fine s (b .number) run (b .own) opened-as (view (b .last)) proper)
-      (first-of-last _ ∙ line-passed 17 _ (ap not (eq-eqb _ 4 round-four)))
-
-  same-settings : settings-of (b .last .who) ≡ s
+  pub same-settings : settings-of (b .last .who) ≡ s
   unfolding view who-in who-as
   same-settings = proper .settings
 
-  answered-holds : (k : ℕ) → answered s h k ≡ holds (defined b) k
-  unfolding answered holds defined
-  answered-holds k =
-      ap (λ (u : Settings). getD (held-in u (h .values) (h .confidences)) (k - 1) none-held) (sym same-settings)
-      ∙ ap (λ (hs : List Held). getD hs (k - 1) none-held) (result .done not-refused .reads)
+  -- and has finished
+  module _ (finished : b .last .round ≡ 4) where
+    pub round-four : view (b .last) .round ≡ 4
+    unfolding view
+    round-four = finished
+
+    pub asks-fine : ask-refusal (view (b .last)) ≡ 0
+    unfolding ask-refusal unfinished-refusal
+    asks-fine =
+        first-of-next _ (proper-fine s (b .number) run (b .own) opened-as (view (b .last)) proper)
+        (first-of-last _ ∙ line-passed 17 _ (ap not (eq-eqb _ 4 round-four)))
+
+    -- its result
+    module _ (h : Holdings) (result : Result-says (b .last) h) where
+      not-refused : h .answer ≡ 0
+      not-refused = result .answered ∙ asks-fine
+
+      answered-holds : (k : ℕ) → answered s h k ≡ holds (defined b) k
+      unfolding answered holds defined
+      answered-holds k =
+          ap (λ (u : Settings). getD (held-in u (h .values) (h .confidences)) (k - 1) none-held) (sym same-settings)
+          ∙ ap (λ (hs : List Held). getD hs (k - 1) none-held) (result .done not-refused .reads)
 
 pub built-gradecast : Built-gradecast
 unfolding Built-gradecast Gradecast defined
@@ -118,7 +123,7 @@ built-gradecast s run bs g h x c i j l e f a b p q = (
     agree : Agree (s .n) (holds (defined g)) (holds (defined h)) (defined x .number) (defined x .own)
     agree =
         gradecast s run (map defined bs) (defined g) (defined h) (defined x) (conditions-follow s run bs c) (among-map defined i) (among-map defined j)
-        (among-map defined l) (round-four s run g (c .ran g i) e a p) (round-four s run h (c .ran h j) f b q)
+        (among-map defined l) (round-four s run g (c .ran g i) e) (round-four s run h (c .ran h j) f)
 
 -- what a round told of a column stands in the front of its array
 told-at : (k : ℕ) (told array : List ℕ) → array ≡ padded most-columns told → (getD told (k - 1) told-missing ≡ told-missing → ⊥) →
@@ -148,5 +153,5 @@ built-told s run bs g x c i l e p says =
     let fine = not-refused s run g (c .ran g i) e p says in
     let told =
     good-told s run (map defined bs) (defined g) (defined x) (conditions-follow s run bs c) (among-map defined i) (among-map defined l)
-    (round-four s run g (c .ran g i) e p says) in
+    (round-four s run g (c .ran g i) e) in
     (fine, told-inside _ _ _ _ _ (says .two fine) (told .0), told-inside _ _ _ _ _ (says .three fine) (told .1))

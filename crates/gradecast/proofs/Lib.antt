@@ -6,9 +6,6 @@ pub mod Rounds
 pub mod Gradecast
 pub mod Built
 pub mod Cases
-pub mod Building
-pub mod Testing
-pub mod Examples
 pub mod EveryStep
 pub mod NothingFollows
 pub mod NothingTold

@@ -28,8 +28,8 @@ use Rattle.rounds.specs.Exchange.{Closed}
 use Rattle.rounds.proofs.Rows.{closed-unique}
 use Rattle.gradecast.specs.Promise.{holds}
 use Rattle.gradecast.proofs.Cases.{three-refused, four-opens, alone-holds, alone-finishes, alone-ends-in-four}
-use Rattle.gradecast.proofs.Testing.NoneNear.{quick-sum, right-at, plane-none, none-from, quick-none, none-quick}
-use Rattle.gradecast.proofs.Testing.Table.{row-of, told-of, row-test, table-row, table-of, told-at, told-by, table-test, table-tested}
+use Rattle.exchanges.proofs.Testing.NoneNear.{quick-sum, right-at, plane-none, none-from, quick-none, none-quick}
+use Rattle.exchanges.proofs.Testing.Table.{row-of, told-of, row-test, table-row, table-of, told-at, told-by, table-test, table-tested}
 use Rattle.grading.specs.Value.{Vector, is-blank, entries}
 use Rattle.grading.specs.Held.{Held, held-as}
 use Rattle.record.proofs.Refusal.{line-passed, first-of-next, first-of-last}

@@ -15,12 +15,12 @@ use Rattle.record.specs.declared.Column.{Column}
 use Rattle.record.proofs.Refusal.{Opens, opens-of}
 use Rattle.record.proofs.View.{view-opened}
 use Rattle.column.proofs.Step.{step-of}
 use Rattle.gradecast.specs.Promise.{Among, first, other, Good}
 use Rattle.gradecast.specs.Built.{Built-step, takes, sends, closes, asks, Built-run, no-step, one-step, Built, Built-ran, defined}
 use Rattle.gradecast.proofs.Proper.{Proper, proper-open, proper-step, leads-unique}
 use Rattle.gradecast.proofs.Built.{step-leads}
-use Rattle.gradecast.proofs.Testing.Stepping.{Claims, after-call, call-test, answer, run-test, answers, call-leads}
-use Rattle.gradecast.proofs.Testing.Conditions.{Script, opening, good, Plays}
+use Rattle.exchanges.proofs.Testing.Stepping.{Claims, after-call, call-test, answer, run-test, answers, call-leads}
+use Rattle.exchanges.proofs.Testing.Conditions.{Script, opening, good, Plays}
 
 -- the answer of a step, and of each step of a run
 unfoldable pub step-answer : {c d : Column} {x : Call} → Built-step c x d → ℕ

@@ -9,8 +9,8 @@ use lib.Dec.{eqb}
 use Rattle.record.specs.Frame.{header}
 use Rattle.record.specs.Record.{told-missing, told-none}
 use Rattle.column.specs.Call.{Call, taking, sending, closing, asking}
-use Rattle.gradecast.proofs.Testing.Conditions.{Script}
-use Rattle.gradecast.proofs.Examples.Exchange.{vector, pick, Exchange, frame, sent, split, script}
+use Rattle.exchanges.proofs.Testing.Conditions.{Script}
+use Rattle.exchanges.proofs.Examples.Exchange.{vector, pick, Exchange, frame, sent, split, script}
 
 unfoldable pub rough : Exchange
 rough =

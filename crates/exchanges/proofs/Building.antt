@@ -5,3 +5,4 @@ pub mod ByteRecord
 pub mod Sending
 pub mod Group
 pub mod Answers
+pub mod Tested

@@ -2,6 +2,7 @@
 pub mod Exchange
 pub mod Printed
 pub mod Rough
+pub mod Radio
 pub mod Outcomes
 pub mod Defined
 pub mod Built

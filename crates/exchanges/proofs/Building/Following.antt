@@ -37,9 +37,9 @@ use Rattle.column.proofs.Taken.{take-reads}
 use Rattle.rounds.proofs.Rows.{Sized, table-sized}
 use Rattle.rounds.proofs.AfterRound.{Inside, inside, finds-of}
 use Rattle.column.proofs.Step.{close-refused, step-of, leads-closing}
 use Rattle.gradecast.specs.Built.{Built-step, takes, sends, closes, asks, Built-run, no-step, one-step}
 use Rattle.gradecast.proofs.Proper.{Proper, proper-step, leads-unique}
-use Rattle.gradecast.proofs.Building.Writing.{stores-sized, stores-entries}
+use Rattle.exchanges.proofs.Building.Writing.{stores-sized, stores-entries}
 
 -- a call that sends, and is not refused, has a frame to send; and so every call of a list
 unfoldable pub Can-send : Call → Rec → Type 0

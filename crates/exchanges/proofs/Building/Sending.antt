@@ -23,9 +23,9 @@ use Rattle.record.proofs.Refusal.{Opens, first-of-zero, round-inside}
 use Rattle.record.proofs.Front.{cut-glued}
 use Rattle.column.proofs.Sent.{frame-sent}
 use Rattle.column.proofs.Step.{step-of}
 use Rattle.gradecast.proofs.Proper.{Proper, proper-open, proper-step}
-use Rattle.gradecast.proofs.Building.Following.{Can-send, Sendable}
-use Rattle.gradecast.proofs.Building.ByteRecord.{Byte-record, bytes-vector, byte-frames, first-call, open-bytes, step-bytes}
+use Rattle.exchanges.proofs.Building.Following.{Can-send, Sendable}
+use Rattle.exchanges.proofs.Building.ByteRecord.{Byte-record, bytes-vector, byte-frames, first-call, open-bytes, step-bytes}
 
 -- the check values of a vector, as an operand
 glued-length : (w : ℕ) (vs : Vector) → Values w vs → length (glued vs) ≡ length vs * w

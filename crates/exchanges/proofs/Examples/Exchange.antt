@@ -9,7 +9,7 @@ use Rattle.code.specs.Settings.{Settings}
 use Rattle.grading.specs.Value.{Value, Vector}
 use Rattle.record.specs.Frame.{header}
 use Rattle.column.specs.Call.{Call}
-use Rattle.gradecast.proofs.Testing.Conditions.{Script}
+use Rattle.exchanges.proofs.Testing.Conditions.{Script}
 
 -- n = 4, t = 1, w = 1
 abbrev pub four : Settings

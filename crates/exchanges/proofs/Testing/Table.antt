@@ -23,7 +23,7 @@ use Rattle.grading.proofs.Value.{entries-length, entries-at}
 use Rattle.record.specs.Frame.{checks-in}
 use Rattle.record.specs.Record.{Rec, told-missing, told-none, counted}
 use Rattle.rounds.specs.Exchange.{Row, Table}
-use Rattle.gradecast.proofs.Testing.NoneNear.{quick-none, none-quick}
+use Rattle.exchanges.proofs.Testing.NoneNear.{quick-none, none-quick}
 
 -- a row that is claimed: a vector, or blank
 unfoldable pub row-of : Settings → Option Vector → Vector

@@ -16,12 +16,12 @@ use Rattle.record.specs.Stored.{identity, opened-column}
 use Rattle.record.specs.declared.Column.{Column}
 use Rattle.record.proofs.Refusal.{Opens, opens-of}
 use Rattle.record.proofs.View.{view-opened}
 use Rattle.gradecast.specs.Promise.{Good, Among, first, other, Ran, Conditions}
 use Rattle.gradecast.specs.Built.{Built-run, Built, Built-ran, Built-conditions, defined}
 use Rattle.gradecast.proofs.Proper.{proper-open}
-use Rattle.gradecast.proofs.Building.Following.{Stored, run-built}
-use Rattle.gradecast.proofs.Building.ByteRecord.{byte-frames}
-use Rattle.gradecast.proofs.Building.Sending.{sendable}
+use Rattle.exchanges.proofs.Building.Following.{Stored, run-built}
+use Rattle.exchanges.proofs.Building.ByteRecord.{byte-frames}
+use Rattle.exchanges.proofs.Building.Sending.{sendable}
 
 -- a good column whose own value and frames are bytes
 unfoldable pub of-bytes : Good → Bool
@@ -94,6 +94,13 @@ module _ (s : Settings) (run : ℕ) where
   builts-each (g ∷ gs) f b (other a bs i) =
       let x = builts-each gs (λ c j. f c (other g gs j)) b i in (x .0, other g gs (x .1), x .2)
 
+  builts-at :
+      (gs : List Good) (f : (g : Good) → Among g gs → Followed s run g) (g : Good) → Among g gs → (b : Built) × Among b (builts gs f) × (defined b ≡ g)
+  unfolding builts
+  builts-at (g ∷ gs) f a (first hs) = (f g (first gs) .built, first _, f g (first gs) .same)
+  builts-at (g ∷ gs) f a (other h hs i) =
+      let x = builts-at gs (λ c j. f c (other g gs j)) a i in (x .0, other _ _ (x .1), x .2)
+
 -- a group as built
 module _ (s : Settings) (run : ℕ) (gs : List Good) (conditions : Conditions s run gs) (bytes : (g : Good) → Among g gs → of-bytes g ≡ true) where
   unfoldable pub built-group : List Built
@@ -106,6 +113,10 @@ module _ (s : Settings) (run : ℕ) (gs : List Good) (conditions : Conditions s 
   pub group-each : (b : Built) → Among b built-group → Built-ran s run b × Among (defined b) gs × Stored (b .last)
   unfolding built-group
   group-each = builts-each s run gs _
+
+  pub group-at : (g : Good) → Among g gs → (b : Built) × Among b built-group × (defined b ≡ g)
+  unfolding built-group
+  group-at = builts-at s run gs _
 
   enough : s .n ≤ length built-group + s .t
   unfolding built-group

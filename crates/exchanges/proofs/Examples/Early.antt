@@ -27,7 +27,7 @@ use Rattle.column.specs.Entry.{Take-says, Send-says, Close-says}
 use Rattle.column.specs.Promise.{Awaits, sent-frame, Sent-counts}
 use Rattle.column.proofs.Outcome.{sent-counts}
 use Rattle.record.specs.declared.Column.{Column}
-use Rattle.gradecast.proofs.Examples.Exchange.{vector, pick, heard, heard-checks, frame}
+use Rattle.exchanges.proofs.Examples.Exchange.{vector, pick, heard, heard-checks, frame}
 
 -- column 2 in round two with its V; its frame of that round; column 1 as opened, with that frame, and one round on
 unfoldable pub sender : Column

@@ -17,7 +17,7 @@ use Rattle.rounds.specs.Exchange.{heard-vector, Closed}
 use Rattle.column.specs.Call.{Call, taking, sending, closing, asking, after-take, Leads, Run, no-call, one-call, Passes, here, later}
 use Rattle.record.proofs.Refusal.{close-record, close-settings, record-number}
 use Rattle.column.proofs.Step.{close-refused, leads-closing}
-use Rattle.gradecast.proofs.Testing.Table.{table-of, told-by, table-test, table-tested}
+use Rattle.exchanges.proofs.Testing.Table.{table-of, told-by, table-test, table-tested}
 
 -- the rows of the tables of rounds two and three, by slot
 abbrev pub Claims : Type 0

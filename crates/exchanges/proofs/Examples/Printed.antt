@@ -6,8 +6,8 @@ use mathlib.Core.Option.{some}
 use Prim.Native.Nat.{ℕ}
 use lib.Dec.{eqb}
 use Rattle.column.specs.Call.{Call, taking, closing}
-use Rattle.gradecast.proofs.Testing.Conditions.{Script}
-use Rattle.gradecast.proofs.Examples.Exchange.{vector, pick, Exchange, sent, split, script}
+use Rattle.exchanges.proofs.Testing.Conditions.{Script}
+use Rattle.exchanges.proofs.Examples.Exchange.{vector, pick, Exchange, sent, split, script}
 
 unfoldable pub printed : Exchange
 printed =

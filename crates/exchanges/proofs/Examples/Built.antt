@@ -4,38 +4,36 @@
 use mathlib.Core.Path.{_≡_, _∙_, ap, subst}
 use mathlib.Core.List.{List, map}
 use Prim.Native.Nat.{ℕ}
-use Rattle.record.specs.View.{view}
 use Rattle.record.specs.declared.Holdings.{Holdings}
 use Rattle.grading.specs.Promise.{member, unlisted}
 use Rattle.column.specs.Entry.{Result-says}
 use Rattle.gradecast.specs.Promise.{Among, numbers, bad-count, Few-told, Agree}
 use Rattle.gradecast.specs.Built.{Built, Built-conditions, defined, answered, Built-gradecast, Built-told}
 use Rattle.gradecast.proofs.Built.{built-gradecast, built-told}
-use Rattle.gradecast.proofs.Building.Following.{result-built}
-use Rattle.gradecast.proofs.Building.Group.{built-group, group-same, group-each, group-conditions}
-use Rattle.gradecast.proofs.Building.Answers.{all-answers, answers-listed}
-use Rattle.gradecast.proofs.Testing.Conditions.{good, plays}
-use Rattle.gradecast.proofs.Examples.Exchange.{four, script}
-use Rattle.gradecast.proofs.Examples.Rough.{says-of, rough-lists, rough-scripts}
-use Rattle.gradecast.proofs.Examples.Defined.{goods, rough-met, rough-answers}
+use Rattle.exchanges.proofs.Building.Following.{result-built}
+use Rattle.exchanges.proofs.Building.Answers.{all-answers, answers-listed}
+use Rattle.exchanges.proofs.Building.Tested.{goods, tested-columns, tested-same, tested-conditions, tested-finished, tested-stored}
+use Rattle.exchanges.proofs.Testing.Conditions.{good, plays}
+use Rattle.exchanges.proofs.Examples.Exchange.{four, script}
+use Rattle.exchanges.proofs.Examples.Rough.{says-of, rough-lists, rough-scripts}
+use Rattle.exchanges.proofs.Examples.Defined.{rough-met, rough-answers}
 
 -- the three columns as built
 unfoldable pub columns : List Built
-columns = built-group four 7 (goods rough-scripts) (rough-met .conditions) (rough-met .bytes)
+columns = tested-columns four 7 rough-scripts rough-met
 
-pub columns-same : map defined columns ≡ goods rough-scripts
+columns-same : map defined columns ≡ goods four 7 rough-scripts
 unfolding columns
-columns-same = group-same four 7 (goods rough-scripts) (rough-met .conditions) (rough-met .bytes)
+columns-same = tested-same four 7 rough-scripts rough-met
 
 -- every condition holds, and all have finished
 pub columns-conditions : Built-conditions four 7 columns
 unfolding columns
-columns-conditions = group-conditions four 7 (goods rough-scripts) (rough-met .conditions) (rough-met .bytes)
+columns-conditions = tested-conditions four 7 rough-scripts rough-met
 
-pub columns-finished : (b : Built) → Among b columns → b .last .round ≡ 4
-unfolding columns defined view
-columns-finished b i =
-    rough-met .finished (defined b) (group-each four 7 (goods rough-scripts) (rough-met .conditions) (rough-met .bytes) b i .1)
+columns-finished : (b : Built) → Among b columns → b .last .round ≡ 4
+unfolding columns
+columns-finished = tested-finished four 7 rough-scripts rough-met
 
 -- column 4 is the only bad one
 one-bad : bad-count four (map defined columns) ≡ 1
@@ -45,7 +43,7 @@ one-bad = ap (bad-count four) columns-same
 -- each has a result to answer
 columns-answer : (b : Built) → Among b columns → (h : Holdings) × Result-says (b .last) h
 unfolding columns
-columns-answer b i = result-built (b .last) (group-each four 7 (goods rough-scripts) (rough-met .conditions) (rough-met .bytes) b i .2)
+columns-answer b i = result-built (b .last) (tested-stored four 7 rough-scripts rough-met b i)
 
 -- what two of them answer agrees about a third, of which the first was told few places
 pub record Answers-agree (g h x : Built) : Type 0 where
@@ -86,7 +84,7 @@ calls-answer =
 
 -- the witness: columns as built that ran the lists, meet the conditions, have finished and answer
 pub record Witness (bs : List Built) : Type 0 where
-  pub same : map defined bs ≡ goods rough-scripts
+  pub same : map defined bs ≡ goods four 7 rough-scripts
   pub conditions : Built-conditions four 7 bs
   pub answers : all-answers four 7 bs (conditions .ran) ≡ map says-of rough-lists
   pub finished : (b : Built) → Among b bs → b .last .round ≡ 4

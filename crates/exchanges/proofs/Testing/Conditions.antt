@@ -22,10 +22,10 @@ use Rattle.record.specs.Record.{Rec, opened, In-time}
 use Rattle.record.specs.Refusal.{open-refusal, other-round-refusal}
 use Rattle.record.proofs.InTime.{in-time-of}
 use Rattle.column.specs.Call.{Call, here}
 use Rattle.gradecast.specs.Promise.{Among, first, other, Good, numbers, Ran, Round-frame, Handed, Fair, Conditions}
 use Rattle.gradecast.proofs.Goods.{each-map}
-use Rattle.gradecast.proofs.Testing.Frames.{frame-test, frame-tested, takes-now, taken-now, given-test, given-tested}
-use Rattle.gradecast.proofs.Testing.Stepping.{Claims, ran, run-test, run-tested, some-place, place-tested}
+use Rattle.exchanges.proofs.Testing.Frames.{frame-test, frame-tested, takes-now, taken-now, given-test, given-tested}
+use Rattle.exchanges.proofs.Testing.Stepping.{Claims, ran, run-test, run-tested, some-place, place-tested}
 
 -- a good column: its number, own value and calls, the rows of its tables, and the frame that it sends in each round
 pub record Script : Type 0 where
