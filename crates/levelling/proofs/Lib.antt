@@ -1,0 +1,9 @@
+pub mod Whole
+pub mod Rank
+pub mod Ends
+pub mod Slots
+pub mod Half
+pub mod Left
+pub mod Steps
+pub mod Built
+pub mod Examples

@@ -1,0 +1,3 @@
+pub mod Spread
+pub mod Promise
+pub mod Built

@@ -1,0 +1,69 @@
+-- What is promised over numbers: of the lowest, the highest and the half, and of heights that come together exchange after exchange, whoever
+-- has them. Each statement is a type, and proofs/ has its proof. Assumes nothing.
+use mathlib.Core.Path.{_≡_}
+use mathlib.Core.List.{List}
+use mathlib.Core.Logic.{_⊎_}
+use Prim.Native.Nat.{ℕ, suc, _^_, _<_}
+use lib.IntN.{ℤ, pos, _+ℤ_, _-ℤ_}
+use lib.ListN.{length}
+use lib.Signed.{_≤ℤ_}
+use Rattle.gradecast.specs.Promise.{Among}
+use Rattle.level.specs.Steps.Ends.{Short}
+use Rattle.levelling.specs.Spread.{lowest, highest, spread, half-up}
+
+-- a height is between the lowest and the highest of heights
+abbrev pub Between : List ℤ → ℤ → Type 0
+Between hs z = (lowest hs ≤ℤ z) × (z ≤ℤ highest hs)
+
+-- two heights differ by at most so much
+abbrev pub Differ-by : (most y z : ℤ) → Type 0
+Differ-by most y z = ((y -ℤ z) ≤ℤ most) × ((z -ℤ y) ≤ℤ most)
+
+-- the two promises of Ask 4, of two levels and the good heights: both levels are between the lowest and the highest height, and they differ
+-- by at most half of the spread, rounded up
+pub record Together (heights : List ℤ) (y z : ℤ) : Type 0 where
+  pub between : Between heights y × Between heights z
+  pub near : Differ-by (half-up (spread heights)) y z
+
+-- the lowest and the highest of some heights are two of them, and all are between these
+unfoldable pub Lowest-highest : Type 0
+Lowest-highest =
+    (hs : List ℤ) → 0 < length hs → Among (lowest hs) hs × Among (highest hs) hs × ((z : ℤ) → Among z hs → Between hs z)
+
+-- twice the half of a number is that number, or one more
+unfoldable pub Halved-up : Type 0
+Halved-up = (z : ℤ) → (half-up z +ℤ half-up z ≡ z) ⊎ (half-up z +ℤ half-up z ≡ z +ℤ pos 1)
+
+-- ---- exchange after exchange
+
+-- new heights after old ones, any that the two promises hold of: of each, and of any two
+unfoldable pub Levelled : (old new : List ℤ) → Type 0
+Levelled old new = (y z : ℤ) → Among y new → Among z new → Together old y z
+
+-- after one exchange the spread is at most half of what it was, rounded up
+unfoldable pub Halves : Type 0
+Halves = (old new : List ℤ) → Levelled old new → spread new ≤ℤ half-up (spread old)
+
+-- after k exchanges a spread of at most 2^k, and so every spread that has k bits, is at most 1
+unfoldable pub Levels-out : Type 0
+Levels-out =
+    (k : ℕ) (heights : ℕ → List ℤ) → ((j : ℕ) → j < k → Levelled (heights j) (heights (suc j))) → spread (heights 0) ≤ℤ pos (2 ^ k) →
+    spread (heights k) ≤ℤ pos 1
+
+-- and no greater spread does in general: one of 2^k + 1 may be 2 after k exchanges
+unfoldable pub No-fewer : Type 0
+No-fewer =
+    (k : ℕ) → (heights : ℕ → List ℤ) × ((j : ℕ) → j < k → Levelled (heights j) (heights (suc j))) × (spread (heights 0) ≡ pos (suc (2 ^ k)))
+    × (spread (heights k) ≡ pos 2)
+
+-- no height leaves what the first ones are between, if none of the exchanges in between leaves no heights at all
+unfoldable pub Stays-between : Type 0
+Stays-between =
+    (k : ℕ) (heights : ℕ → List ℤ) → ((j : ℕ) → j < k → Levelled (heights j) (heights (suc j))) →
+    ((j : ℕ) → 0 < j → j < k → 0 < length (heights j)) → (z : ℤ) → Among z (heights k) → Between (heights 0) z
+
+-- of heights of 32 bits every spread is at most 1 after 32 exchanges
+unfoldable pub Thirty-two : Type 0
+Thirty-two =
+    (heights : ℕ → List ℤ) → ((z : ℤ) → Among z (heights 0) → Short z) → ((j : ℕ) → j < 32 → Levelled (heights j) (heights (suc j))) →
+    spread (heights 32) ≤ℤ pos 1
