@@ -32,4 +32,10 @@ impl Chance {
             *byte = (self.word() >> 32) as u8;
         }
     }
+
+    pub fn shuffle<T>(&mut self, list: &mut [T]) {
+        for k in (1..list.len()).rev() {
+            list.swap(k, self.below(k as u64 + 1) as usize);
+        }
+    }
 }

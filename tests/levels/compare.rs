@@ -2,28 +2,7 @@
 
 use crate::archive::{self, Column, Identity};
 use crate::model::{Finished, Levelled};
-
-/// The case for a message, with height/confidence of each column.
-pub fn shown(column: &Column, values: &[u8], confidences: &[u8]) -> String {
-    let Identity {
-        n,
-        t,
-        w,
-        number,
-        own,
-        ..
-    } = column.who;
-    let round = column.round;
-    let columns = values.chunks(4).zip(confidences).take(n as usize);
-    let held: Vec<String> = columns
-        .map(|(value, confidence)| {
-            let height = i32::from_be_bytes(value.try_into().unwrap());
-            format!("{height}/{confidence}")
-        })
-        .collect();
-    let held = held.join(" ");
-    format!("n {n}, t {t}, w {w}, number {number}, own {own:?}, round {round}, {held}")
-}
+use crate::shown::shown;
 
 /// The library's level, which is the model's of these values and confidences.
 pub fn compared(part: &str, column: &Column, values: &[u8], confidences: &[u8]) -> Levelled {

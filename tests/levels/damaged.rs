@@ -3,7 +3,7 @@
 use crate::archive::Column;
 use crate::chance::Chance;
 use crate::compare::compared_record;
-use crate::heights::put_confidences;
+use crate::held::put_confidences;
 use crate::record::{EMPTY, fill};
 
 /// The lines that concern a level, in their order.

@@ -3,7 +3,8 @@
 use crate::archive::{Column, Identity};
 use crate::chance::Chance;
 use crate::compare::compared_record;
-use crate::heights::{KINDS, own_height, put_confidences, put_heights};
+use crate::heights::{KINDS, own_height};
+use crate::held::{put_confidences, put_heights};
 use crate::record::{EMPTY, fill};
 
 /// Records for each n, t, count of blanks and kind of heights: fewer where there are many blanks, which all are refused.
@@ -45,7 +46,7 @@ fn finished_records(chance: &mut Chance, column: &mut Column, blank: u32) -> u32
     for kind in KINDS {
         for _ in 0..times {
             column.who.number = 1 + chance.below(n.into()) as u32;
-            column.who.own[..4].copy_from_slice(&own_height(chance, kind));
+            column.who.own[..4].copy_from_slice(&own_height(chance, kind).to_be_bytes());
             put_heights(chance, &mut column.found.values[..4 * n as usize], kind);
             let confidences = &mut column.found.confidences[..n as usize];
             put_confidences(chance, confidences, blank as usize);

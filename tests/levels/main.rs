@@ -12,13 +12,21 @@ mod exchanges;
 mod finished;
 #[path = "../../models/frames.rs"]
 mod frames;
+#[path = "../shared/group.rs"]
+mod group;
+#[path = "../shared/heights.rs"]
 mod heights;
+mod held;
+#[path = "../shared/liars.rs"]
+mod liars;
 #[path = "../../models/level.rs"]
 mod model;
 #[path = "../shared/record.rs"]
 mod record;
 #[path = "../../models/refusals.rs"]
 mod refusals;
+#[path = "../shared/shown.rs"]
+mod shown;
 
 use chance::Chance;
 use exchanges::Exchanges;

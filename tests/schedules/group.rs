@@ -36,7 +36,7 @@ pub fn value(chance: &mut Chance, w: u32) -> Value {
 pub fn group(chance: &mut Chance, n: u32, t: u32, w: u32) -> Group {
     let run = chance.word() as u16;
     let mut numbers: Vec<u32> = (1..=n).collect();
-    shuffle(chance, &mut numbers);
+    chance.shuffle(&mut numbers);
     // Now and then more are bad than the group bears: the model is followed all the same.
     let count = if chance.one_in(6) {
         chance.below(n.into())
@@ -58,12 +58,6 @@ pub fn group(chance: &mut Chance, n: u32, t: u32, w: u32) -> Group {
         plot: value(chance, w),
         reliable: !chance.one_in(4),
         in_step: chance.one_in(4),
-    }
-}
-
-pub fn shuffle<T>(chance: &mut Chance, list: &mut [T]) {
-    for k in (1..list.len()).rev() {
-        list.swap(k, chance.below(k as u64 + 1) as usize);
     }
 }
 

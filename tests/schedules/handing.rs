@@ -3,7 +3,7 @@
 use crate::chance::Chance;
 use crate::exchange::{Model, Value};
 use crate::frames::{command_of, frame};
-use crate::group::{Group, shuffle, value};
+use crate::group::{Group, value};
 use crate::pair::{Event, Pair};
 
 impl Group {
@@ -34,7 +34,7 @@ impl Group {
         if self.reliable {
             events.retain(|event| self.is_fair(event));
         }
-        shuffle(chance, &mut events);
+        chance.shuffle(&mut events);
         events
     }
 
