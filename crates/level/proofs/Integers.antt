@@ -15,8 +15,7 @@ use mir.Facts.{toZ-ofZ}
 use borrow.Author.Tests.{ltb-true, ltb-false, lt-ltb, le-ltb}
 use Rattle.arrays.proofs.Bool.{true-not-false}
 use Rattle.grading.specs.Value.{Value}
-use Rattle.level.specs.Level.{bits, signed, height, halved}
-use Rattle.level.specs.Steps.Ends.{Short}
+use Rattle.level.specs.Level.{bits, signed, height, Short, halved}
 
 mag-less : (a b : ℕ) → mag (subℕ a (suc b)) ≤ suc (a + b)
 mag-less a b = go (ltb a (suc b))

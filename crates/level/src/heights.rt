@@ -6,8 +6,7 @@ ghost use lib.IntN.{_-ℤ_};
 ghost use lib.ListN.{take, drop};
 ghost use lib.Signed.{mag};
 ghost use Rattle.code.specs.Size.{most-columns};
-ghost use Rattle.level.specs.Level.{bits, signed, height, halved};
-ghost use Rattle.level.specs.Steps.Ends.{Short};
+ghost use Rattle.level.specs.Level.{bits, signed, height, Short, halved};
 use code::sizes::VALUE_ROOM;
 use code::sizes::VECTOR_ROOM;
 

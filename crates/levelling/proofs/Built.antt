@@ -2,14 +2,18 @@
 -- every good own value at confidence 2; with w = 4 no line of the level's refusals applies. So all good columns' levels are halfway by one and
 -- the same good height, and the numbers alone say the rest. Assumes nothing.
 use mathlib.Core.Path.{_≡_, refl, sym, _∙_, ap}
-use mathlib.Core.Bool.{true, not}
+use mathlib.Core.Bool.{Bool, true, false, not}
 use mathlib.Core.List.{List, [], map}
-use Prim.Native.Nat.{ℕ, zero, suc, _-_}
+use mathlib.Core.Logic.{_≢_}
+use Prim.Native.Nat.{ℕ, zero, suc, _-_, _<_}
 use native.Mathlib.Omega.{arith}
+use lib.Dec.{eqb}
 use lib.IntN.{ℤ}
 use lib.ListN.{length, getD}
-use borrow.Author.Tests.{eq-eqb}
+use borrow.Author.Tests.{eq-eqb, eqb-true, eqb-false}
+use Rattle.arrays.proofs.Bytes.{Bytes, byte-at}
 use Rattle.code.specs.Settings.{Settings, settings}
+use Rattle.code.proofs.Tests.{bytes-of}
 use Rattle.grading.specs.Value.{Value}
 use Rattle.grading.specs.Held.{Held, held-as}
 use Rattle.grading.specs.Promise.{member, Numbered}
@@ -22,17 +26,18 @@ use Rattle.gradecast.proofs.Goods.{among-map, each-map, of-number, of-number-is
 use Rattle.gradecast.proofs.Handed.{group-of, numbered}
 use Rattle.gradecast.proofs.Gradecast.{gradecast}
 use Rattle.gradecast.proofs.Built.{conditions-follow, same-settings, round-four, asks-fine}
-use Rattle.level.specs.Level.{height, level-of, correction-of, width-refusal, blank-columns-refusal, level-refusal}
+use Rattle.level.specs.Level.{bits, height, Short, level-of, correction-of, width-refusal, blank-columns-refusal, level-refusal}
 use Rattle.level.specs.declared.answer.Level.{Level}
+use Rattle.level.proofs.Integers.{signed-short}
 use Rattle.level.proofs.Left.{held-columns}
 use Rattle.levelling.specs.Spread.{lowest, highest, spread}
-use Rattle.levelling.specs.Promise.{Between, Together, Lowest-highest, Levelled, Levels-out}
-use Rattle.levelling.specs.Built.{own-heights, Level-answers, Built-levelling, At-level, Built-levelled, Built-levels-out, Built-stays-between}
-use Rattle.levelling.proofs.Ends.{lowest-under, highest-over, among-some, lowest-highest}
+use Rattle.levelling.specs.Promise.{Between, Together, Stay-inside, Come-near, Repeated, Levels-out, Short-levels-out, Stays-between}
+use Rattle.levelling.specs.Built.{own-heights, Level-answers, Built-levelling, At-level, Built-repeated, Built-levelled, Built-levels-out, Built-short-levels-out, Built-stays-between}
+use Rattle.levelling.proofs.Ends.{lowest-under, highest-over, among-some}
 use Rattle.levelling.proofs.Slots.{Shows}
 use Rattle.levelling.proofs.Half.{Halfway, halfway-over, halfway-under, halfway-near}
 use Rattle.levelling.proofs.Left.{mid, not-refused, halfway}
-use Rattle.levelling.proofs.Steps.{levels-out, between-next}
+use Rattle.levelling.proofs.Steps.{levels-out, short-levels-out, stays-between}
 
 module _ (s : Settings) (run : ℕ) (bs : List Built) (c : Built-conditions s run bs) where
   -- the good columns as defined, their numbers, and their own values by number
@@ -155,26 +160,58 @@ levels-together s run bs y z c four a b =
     (built-levelling s run bs (a .column) (b .column) c four (a .good) (b .good) (a .finished) (b .finished) (a .answer) (b .answer) (a .says) (b .says) .2)
 
 pub built-levelled : Built-levelled
-unfolding Built-levelled Levelled own-heights
-built-levelled s run old new m y z i j =
-    each-map (λ b. height (b .own)) (λ (y : ℤ). Together (own-heights old) y z) new
-    (λ a k.
-    each-map (λ b. height (b .own)) (λ (z : ℤ). Together (own-heights old) (height (a .own)) z) new
-    (λ b l. levels-together s run old _ _ (m .conditions) (m .four) (m .at-level a k) (m .at-level b l)) z j)
-    y i
+unfolding Built-levelled own-heights
+built-levelled s run old new m = (λ z i. both z z i i .between .0, λ y z i j. both y z i j .near)
+  where
+    both : (y z : ℤ) → Among y (own-heights new) → Among z (own-heights new) → Together (own-heights old) y z
+    both y z i j =
+        each-map (λ b. height (b .own)) (λ (y : ℤ). Together (own-heights old) y z) new
+        (λ a k.
+        each-map (λ b. height (b .own)) (λ (z : ℤ). Together (own-heights old) (height (a .own)) z) new
+        (λ b l. levels-together s run old _ _ (m .conditions) (m .four) (m .at-level a k) (m .at-level b l)) z j)
+        y i
+
+-- repeated exchanges
+module _ (s : ℕ → Settings) (run : ℕ → ℕ) (bs : ℕ → List Built) where
+  heights : ℕ → List ℤ
+  heights j = own-heights (bs j)
+
+  come-near : (k : ℕ) → Built-repeated k s run bs → Repeated k Come-near heights
+  unfolding heights Built-levelled
+  come-near k m j h = built-levelled (s j) (run j) (bs j) (bs (suc j)) (m j h) .1
+
+  stay-inside : (k : ℕ) → Built-repeated k s run bs → Repeated k Stay-inside heights
+  unfolding heights Built-levelled
+  stay-inside k m j h = built-levelled (s j) (run j) (bs j) (bs (suc j)) (m j h) .0
+
+  -- whoever stands at a level was not alone before
+  some-before : (k : ℕ) → Built-repeated k s run bs → (b : Built) → Among b (bs k) → (j : ℕ) → j < k → 0 < length (heights j)
+  unfolding heights own-heights
+  some-before zero m b i j h = absurd (omega arith)
+  some-before (suc k) m b i j h =
+      let last = m k (omega arith) .at-level b i in
+      go (eqb j k) refl (among-some (among-map (λ b. height (b .own)) (last .good)))
+      (some-before k (λ l low. m l (omega arith)) (last .column) (last .good) j)
+    where
+      go : (q : Bool) → eqb j k ≡ q → 0 < length (own-heights (bs k)) → (j < k → 0 < length (own-heights (bs j))) → 0 < length (own-heights (bs j))
+      go true e here before = rw (eqb-true j k e) here
+      go false e here before = before (let n : j ≢ k = eqb-false j k e in omega arith)
 
 pub built-levels-out : Built-levels-out
-unfolding Built-levels-out Levels-out Built-levelled
-built-levels-out k s run bs m h =
-    levels-out k (λ j. own-heights (bs j)) (λ j l. built-levelled (s j) (run j) (bs j) (bs (suc j)) (m j l)) h
+unfolding Built-levels-out Levels-out heights
+built-levels-out k m s run bs moved h = levels-out k m (heights s run bs) (come-near s run bs k moved) h
+
+pub built-short-levels-out : Built-short-levels-out
+unfolding Built-short-levels-out Short-levels-out heights own-heights height bits
+built-short-levels-out s run bs bytes moved =
+    short-levels-out (heights s run bs)
+    (each-map (λ b. height (b .own)) Short (bs 0) (λ b i. height-short (b .own) (bytes-of (b .own) (bytes b i)))) (come-near s run bs 32 moved)
+  where
+    height-short : (v : Value) → Bytes v → Short (height v)
+    height-short v b = signed-short (bits v) (omega (arith, byte-at v 0 b, byte-at v 1 b, byte-at v 2 b, byte-at v 3 b))
 
 pub built-stays-between : Built-stays-between
-unfolding Built-stays-between Built-levelled Levelled own-heights Lowest-highest
-built-stays-between zero s run bs m b i =
-    let here = among-map (λ b. height (b .own)) i in lowest-highest (own-heights (bs 0)) (among-some here) .2 (height (b .own)) here
-built-stays-between (suc k) s run bs m b i =
-    let here = among-map (λ b. height (b .own)) i in
-    let last = m k (omega arith) in
-    between-next (own-heights (bs 0)) (own-heights (bs k)) (height (b .own)) (among-some (among-map (λ b. height (b .own)) (last .at-level b i .good)))
-    (each-map (λ b. height (b .own)) (Between (own-heights (bs 0))) (bs k) (built-stays-between k s run bs (λ j h. m j (omega arith))))
-    (built-levelled (s k) (run k) (bs k) (bs (suc k)) last (height (b .own)) (height (b .own)) here here .between .0)
+unfolding Built-stays-between Stays-between heights own-heights
+built-stays-between k s run bs moved b i =
+    stays-between k (heights s run bs) (stay-inside s run bs k moved) (λ j low h. some-before s run bs k moved b i j h) (height (b .own))
+    (among-map (λ b. height (b .own)) i)

@@ -12,7 +12,7 @@ use Rattle.level.specs.Promise.{Halved-down}
 use Rattle.level.proofs.Sorting.{halved-down}
 use Rattle.levelling.specs.Spread.{half-up}
 use Rattle.levelling.specs.Promise.{Halved-up}
-use Rattle.levelling.proofs.Whole.{up, down, up-pos, down-pos, parts, ordered, sum-parts, difference-parts, half-parts}
+use Rattle.levelling.proofs.Whole.{above, below, above-pos, below-pos, order-parts, parts-order, sum-parts, difference-parts, half-parts}
 
 pub record Halfway (low mid high level : ℤ) : Type 0 where
   pub first : ℤ
@@ -24,71 +24,53 @@ pub record Halfway (low mid high level : ℤ) : Type 0 where
   pub half : level ≡ halved (first +ℤ last)
 
 module _ {low mid high level : ℤ} (x : Halfway low mid high level) where
-  over : up low + up mid + 2 * down level ≤ 2 * up level + down low + down mid + 1
-  over =
+  -- twice the level is at least low + mid − 1 and at most mid + high
+  sides :
+      (above low + above mid + 2 * below level ≤ 2 * above level + below low + below mid + 1)
+      × (2 * above level + below mid + below high ≤ above mid + above high + 2 * below level)
+  sides =
       omega (
         arith,
-        parts (x .from-low),
-        parts (x .from-mid),
+        order-parts (x .from-low),
+        order-parts (x .to-mid),
+        order-parts (x .from-mid),
+        order-parts (x .to-high),
         sum-parts (x .first) (x .last),
-        half-parts (x .first +ℤ x .last) .1,
-        ap up (x .half),
-        ap down (x .half),
+        half-parts (x .first +ℤ x .last),
+        ap above (x .half),
+        ap below (x .half),
       )
-
-  under : 2 * up level + down mid + down high ≤ up mid + up high + 2 * down level
-  under =
-      omega (
-        arith,
-        parts (x .to-mid),
-        parts (x .to-high),
-        sum-parts (x .first) (x .last),
-        half-parts (x .first +ℤ x .last) .0,
-        ap up (x .half),
-        ap down (x .half),
-      )
-
-  low-mid : up low + down mid ≤ up mid + down low
-  low-mid = omega (arith, parts (x .from-low), parts (x .to-mid))
-
-  mid-high : up mid + down high ≤ up high + down mid
-  mid-high = omega (arith, parts (x .from-mid), parts (x .to-high))
 
   pub halfway-over : low ≤ℤ level
-  halfway-over = ordered low level (omega (arith, over, low-mid))
+  halfway-over = parts-order low level (omega (arith, sides, order-parts (x .from-low), order-parts (x .to-mid)))
 
   pub halfway-under : level ≤ℤ high
-  halfway-under = ordered level high (omega (arith, under, mid-high))
+  halfway-under = parts-order level high (omega (arith, sides, order-parts (x .from-mid), order-parts (x .to-high)))
 
--- half of a number, rounded up
-half-up-over : (z : ℤ) → (up z + 2 * down (half-up z) ≤ 2 * up (half-up z) + down z)
+-- twice the half of a number, rounded up, is at least that number, and at most one more
+half-up-parts :
+    (z : ℤ) → (above z + 2 * below (half-up z) ≤ 2 * above (half-up z) + below z) × (2 * above (half-up z) + below z ≤ above z + 2 * below (half-up z) + 1)
 unfolding half-up
-half-up-over z = omega (arith, half-parts (z +ℤ pos 1) .1, sum-parts z (pos 1), up-pos 1, down-pos 1)
-
-half-up-under : (z : ℤ) → (2 * up (half-up z) + down z ≤ up z + 2 * down (half-up z) + 1)
-unfolding half-up
-half-up-under z = omega (arith, half-parts (z +ℤ pos 1) .0, sum-parts z (pos 1), up-pos 1, down-pos 1)
+half-up-parts z = omega (arith, half-parts (z +ℤ pos 1), sum-parts z (pos 1), above-pos 1, below-pos 1)
 
 pub halfway-near : {low mid high y z : ℤ} → Halfway low mid high y → Halfway low mid high z → (y -ℤ z) ≤ℤ half-up (high -ℤ low)
 halfway-near {low} {mid} {high} {y} {z} g h =
-    ordered (y -ℤ z) (half-up (high -ℤ low))
-    (omega (arith, under g, over h, half-up-over (high -ℤ low), difference-parts y z, difference-parts high low))
+    parts-order (y -ℤ z) (half-up (high -ℤ low))
+    (omega (arith, sides g, sides h, half-up-parts (high -ℤ low), difference-parts y z, difference-parts high low))
 
 pub half-up-natural : (z : ℤ) → pos 0 ≤ℤ z → pos 0 ≤ℤ half-up z
-half-up-natural z h = ordered (pos 0) (half-up z) (omega (arith, parts h, half-up-over z, up-pos 0, down-pos 0))
+half-up-natural z h = parts-order (pos 0) (half-up z) (omega (arith, order-parts h, half-up-parts z, above-pos 0, below-pos 0))
 
 -- what is at most 2p has half, rounded up, at most p
 pub half-up-at-most : (p : ℕ) (z : ℤ) → z ≤ℤ pos (2 * p) → half-up z ≤ℤ pos p
 half-up-at-most p z h =
-    ordered (half-up z) (pos p)
-    (omega (arith, parts h, half-up-under z, up-pos p, down-pos p, up-pos (2 * p), down-pos (2 * p)))
+    parts-order (half-up z) (pos p)
+    (omega (arith, order-parts h, half-up-parts z, above-pos p, below-pos p, above-pos (2 * p), below-pos (2 * p)))
 
 pub halved-up : Halved-up
 unfolding Halved-up half-up Halved-down
-halved-up z = go (halved-down (z +ℤ pos 1))
+halved-up z = go (half-up z) (halved-down (z +ℤ pos 1))
   where
-    go :
-        (halved (z +ℤ pos 1) +ℤ halved (z +ℤ pos 1) ≡ z +ℤ pos 1) ⊎ ((halved (z +ℤ pos 1) +ℤ halved (z +ℤ pos 1)) +ℤ pos 1 ≡ z +ℤ pos 1) →
-        (halved (z +ℤ pos 1) +ℤ halved (z +ℤ pos 1) ≡ z) ⊎ (halved (z +ℤ pos 1) +ℤ halved (z +ℤ pos 1) ≡ z +ℤ pos 1)
-    go (inl e) = inr e
-    go (inr e) = inl (sym (+ℤ-negℤ-cancel _ (pos 1)) ∙ ap (λ (y : ℤ). y -ℤ pos 1) e ∙ +ℤ-negℤ-cancel z (pos 1))
+    go : (a : ℤ) → (a +ℤ a ≡ z +ℤ pos 1) ⊎ ((a +ℤ a) +ℤ pos 1 ≡ z +ℤ pos 1) → (a +ℤ a ≡ z) ⊎ (a +ℤ a ≡ z +ℤ pos 1)
+    go a (inl e) = inr e
+    go a (inr e) = inl (sym (+ℤ-negℤ-cancel (a +ℤ a) (pos 1)) ∙ ap (λ (y : ℤ). y -ℤ pos 1) e ∙ +ℤ-negℤ-cancel z (pos 1))

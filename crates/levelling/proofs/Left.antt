@@ -23,7 +23,7 @@ use Rattle.level.specs.Promise.{Ascends, total}
 use Rattle.level.proofs.Gathering.{ascending-length}
 use Rattle.level.proofs.Left.{blank-or-confident}
 use Rattle.level.proofs.Remaining.{middle-is}
-use Rattle.levelling.proofs.Rank.{to, from, from-to, to-yes, place-to, place-from, to-place, from-place}
+use Rattle.levelling.proofs.Rank.{up-to, from-on, from-to, to-yes, place-to, place-from, to-place, from-place}
 use Rattle.levelling.proofs.Ends.{ascends, totals}
 use Rattle.levelling.proofs.Slots.{Shows, heights-in, heights-length, heights-total, heights-held, blank-few}
 use Rattle.levelling.proofs.Half.{Halfway}
@@ -48,16 +48,16 @@ module _ (s : Settings) (ns : List ℕ) (own : ℕ → Value) (numbered : Number
   mid-place : s .t < length (ascending goods)
   mid-place = omega (arith, many-goods, numbered .enough, ascending-length goods)
 
-  goods-to-mid : s .t < total (to (mid s ns own)) goods
+  goods-to-mid : s .t < total (up-to (mid s ns own)) goods
   unfolding mid goods
-  goods-to-mid = omega (arith, totals goods (to (mid s ns own)), to-place (ascending goods) (s .t) (ascends goods) mid-place)
+  goods-to-mid = omega (arith, totals goods (up-to (mid s ns own)), to-place (ascending goods) (s .t) (ascends goods) mid-place)
 
-  goods-from-mid : s .t < total (from (mid s ns own)) goods
+  goods-from-mid : s .t < total (from-on (mid s ns own)) goods
   unfolding mid goods
   goods-from-mid =
       omega (
         arith,
-        totals goods (from (mid s ns own)),
+        totals goods (from-on (mid s ns own)),
         from-place (ascending goods) (s .t) (ascends goods) mid-place,
         ascending-length goods,
         many-goods,
@@ -134,13 +134,13 @@ module _ (s : Settings) (ns : List ℕ) (own : ℕ → Value) (numbered : Number
             last = getD held high-place (pos 0);
             from-low =
                 place-from low held low-place held-ascends (omega (arith, enough-held))
-                (omega (arith, all-weighed (from low) (λ m e. from-to low _ ∙ to-yes (above m e)), many-held, few-blank));
-            to-mid = place-to (mid s ns own) held low-place held-ascends (omega (arith, weighed (to (mid s ns own)), goods-to-mid));
+                (omega (arith, all-weighed (from-on low) (λ m e. from-to low _ ∙ to-yes (above m e)), many-held, few-blank));
+            to-mid = place-to (mid s ns own) held low-place held-ascends (omega (arith, weighed (up-to (mid s ns own)), goods-to-mid));
             from-mid =
                 place-from (mid s ns own) held high-place held-ascends (omega (arith, enough-held))
-                (omega (arith, weighed (from (mid s ns own)), goods-from-mid, enough-held));
+                (omega (arith, weighed (from-on (mid s ns own)), goods-from-mid, enough-held));
             to-high =
                 place-to high held high-place held-ascends
-                (omega (arith, all-weighed (to high) (λ m e. to-yes (below m e)), many-held, few-blank, enough-held));
+                (omega (arith, all-weighed (up-to high) (λ m e. to-yes (below m e)), many-held, few-blank, enough-held));
             half = level-is;
           }

@@ -5,7 +5,7 @@ use lib.IntN.{ℤ, pos, _+ℤ_, _-ℤ_}
 use lib.ListN.{length, getD}
 use Rattle.level.specs.Level.{ascending, halved}
 
--- the lowest and the highest: the first and the last in ascending order
+-- the lowest and the highest: the first and the last in ascending order, and 0 where there are no heights
 unfoldable pub lowest : List ℤ → ℤ
 lowest hs = getD (ascending hs) 0 (pos 0)
 

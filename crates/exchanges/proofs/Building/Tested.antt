@@ -1,16 +1,19 @@
--- An exchange that is computed, and the same as built. Where the test passes, the good columns of the scripts meet the conditions of demand 3;
--- so there are columns as built that ran the same lists and read the same. Assumes nothing.
+-- An exchange that is computed, and the same as built. Where the test passes, the good columns of the scripts meet the conditions of demand 3,
+-- and agree; and there are columns as built that ran the same lists and read the same. Assumes nothing.
 use mathlib.Core.Path.{_≡_, _∙_, ap}
 use mathlib.Core.Bool.{Bool, true}
 use mathlib.Core.List.{List, map}
 use Prim.Native.Nat.{ℕ}
 use lib.Dec.{eqb}
 use borrow.Author.Tests.{eqb-true}
+use Rattle.arrays.proofs.Bool.{and-split}
 use Rattle.code.specs.Settings.{Settings}
+use Rattle.code.specs.Plane.{byte-list}
 use Rattle.record.specs.Record.{Found}
 use Rattle.record.specs.View.{view}
-use Rattle.gradecast.specs.Promise.{Among, Good, Conditions}
+use Rattle.gradecast.specs.Promise.{Among, Good, Conditions, holds, Agree, Gradecast}
 use Rattle.gradecast.specs.Built.{Built, Built-conditions, defined}
+use Rattle.gradecast.proofs.Gradecast.{gradecast}
 use Rattle.exchanges.proofs.Building.Following.{Stored}
 use Rattle.exchanges.proofs.Building.Group.{of-bytes, built-group, group-same, group-each, group-at, group-conditions}
 use Rattle.exchanges.proofs.Testing.Stepping.{answers}
@@ -34,9 +37,9 @@ module _ (s : Settings) (run : ℕ) where
   computed ps =
       record {
         conditions = group-test s run ps;
-        bytes = every of-bytes (map (good s run) ps);
-        finished = every (λ g. eqb (g .last .round) 4) (map (good s run) ps);
-        found = map (λ g. g .last .found) (map (good s run) ps);
+        bytes = every of-bytes (goods ps);
+        finished = every (λ g. eqb (g .last .round) 4) (goods ps);
+        found = map (λ g. g .last .found) (goods ps);
         answered = map (λ p. answers (p .claims) (p .calls) (opening s run p)) ps;
       }
 
@@ -60,6 +63,13 @@ module _ (s : Settings) (run : ℕ) where
         finished = λ a i. eqb-true _ 4 (every-tested (λ g. eqb (g .last .round) 4) all-finished i);
       }
 
+-- two of them agree about a third
+pub tested-agree :
+    (s : Settings) (run : ℕ) (ps : List Script) → Met s run ps → (g h x : Good) → Among g (goods s run ps) → Among h (goods s run ps) →
+    Among x (goods s run ps) → Agree (s .n) (holds g) (holds h) (x .number) (x .own)
+unfolding Gradecast
+tested-agree s run ps m g h x i j l = gradecast s run (goods s run ps) g h x (m .conditions) i j l (m .finished g i) (m .finished h j)
+
 -- the columns as built
 module _ (s : Settings) (run : ℕ) (ps : List Script) (m : Met s run ps) where
   unfoldable pub tested-columns : List Built
@@ -81,6 +91,10 @@ module _ (s : Settings) (run : ℕ) (ps : List Script) (m : Met s run ps) where
   pub tested-stored : (b : Built) → Among b tested-columns → Stored (b .last)
   unfolding tested-columns
   tested-stored b i = group-each s run (goods s run ps) (m .conditions) (m .bytes) b i .2
+
+  pub tested-bytes : (b : Built) → Among b tested-columns → byte-list (b .own) ≡ true
+  unfolding tested-columns defined of-bytes
+  tested-bytes b i = and-split (byte-list (b .own)) _ (m .bytes (defined b) (group-each s run (goods s run ps) (m .conditions) (m .bytes) b i .1)) .0
 
   -- the column as built of each column as defined
   pub tested-at : (g : Good) → Among g (goods s run ps) → (b : Built) × Among b tested-columns × (defined b ≡ g)

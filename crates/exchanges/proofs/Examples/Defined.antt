@@ -1,21 +1,20 @@
--- The conditions of demand 3 can be met: exchanges that meet them all, each with a bad column that splits. So their good columns agree: in
--- the exchange of 004 as in the listing that 01 prints; where calls are refused, a row is "none" and a frame is missing; and with heights of
--- four bytes, where a radio reaches only some. Assumes nothing.
+-- The conditions of demand 3 can be met: exchanges that meet them all, each with a bad column that splits. That of 004 gives the listing
+-- that 01 prints; in another calls are refused, a row is "none" and a frame is missing; and in those with heights of four bytes a radio reaches
+-- only some. Assumes nothing.
 use mathlib.Core.Path.{_≡_, refl, ap}
-use mathlib.Core.List.{List, [], _∷_, map}
+use mathlib.Core.List.{[], _∷_, map}
 use Rattle.code.specs.Settings.{settings-refusal}
 use Rattle.code.specs.Repair.{No-repair}
 use Rattle.record.specs.Frame.{checks-in}
-use Rattle.gradecast.specs.Promise.{Among, Good, holds, Agree, Gradecast}
-use Rattle.gradecast.proofs.Gradecast.{gradecast}
-use Rattle.exchanges.proofs.Building.Tested.{Outcome, goods, computed, Met, met}
+use Rattle.gradecast.specs.Promise.{Among, Good, holds, Agree}
+use Rattle.exchanges.proofs.Building.Tested.{Outcome, goods, computed, Met, met, tested-agree}
 use Rattle.exchanges.proofs.Testing.NoneNear.{none-quick}
 use Rattle.exchanges.proofs.Testing.Stepping.{answers}
-use Rattle.exchanges.proofs.Testing.Conditions.{Script, opening}
+use Rattle.exchanges.proofs.Testing.Conditions.{opening}
 use Rattle.exchanges.proofs.Examples.Exchange.{four, heard}
 use Rattle.exchanges.proofs.Examples.Printed.{printed, printed-scripts}
 use Rattle.exchanges.proofs.Examples.Rough.{rough, says-of, rough-lists, rough-scripts}
-use Rattle.exchanges.proofs.Examples.Radio.{four-bytes, Heights, both-ends, a-tenth, radio-scripts, radio-outcome}
+use Rattle.exchanges.proofs.Examples.Radio.{four-bytes, Heights, both-ends, two-tenths, a-tenth, radio-scripts, radio-outcome}
 use Rattle.exchanges.proofs.Examples.Outcomes.{holding, printed-outcome, rough-outcome, outcomes}
 
 -- what was computed says that the conditions are met
@@ -27,12 +26,11 @@ pub rough-met : Met four 7 rough-scripts
 unfolding rough-outcome
 rough-met = met four 7 rough-scripts rough-outcome (outcomes .1) refl refl refl
 
--- all have finished, and so they agree
-pub columns-agree :
-    (ps : List Script) → Met four 7 ps → (g h x : Good) → Among g (goods four 7 ps) → Among h (goods four 7 ps) → Among x (goods four 7 ps) →
+-- so the good columns of the exchange of 004 agree
+pub printed-agree :
+    (g h x : Good) → Among g (goods four 7 printed-scripts) → Among h (goods four 7 printed-scripts) → Among x (goods four 7 printed-scripts) →
     Agree 4 (holds g) (holds h) (x .number) (x .own)
-unfolding Gradecast
-columns-agree ps m g h x i j l = gradecast four 7 (goods four 7 ps) g h x (m .conditions) i j l (m .finished g i) (m .finished h j)
+printed-agree = tested-agree four 7 printed-scripts printed-met
 
 -- the listing that 01 prints: column 3 is less sure of column 4; and what rounds two and three told, column 1 0, 0, 1, 1 in both
 pub listing : map (λ g. g .last .found) (goods four 7 printed-scripts) ≡ holding printed 1 35 2 ∷ holding printed 2 35 2 ∷ holding printed 3 35 1 ∷ []
@@ -67,5 +65,8 @@ radio-met e o =
 pub both-ends-met : Radio-met both-ends
 both-ends-met = radio-met both-ends (outcomes .3)
 
+pub two-tenths-met : Radio-met two-tenths
+two-tenths-met = radio-met two-tenths (outcomes .4)
+
 pub a-tenth-met : Radio-met a-tenth
-a-tenth-met = radio-met a-tenth (outcomes .4)
+a-tenth-met = radio-met a-tenth (outcomes .5)

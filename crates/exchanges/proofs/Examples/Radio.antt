@@ -38,7 +38,17 @@ both-ends =
       blank-checks = 57 ∷ 110 ∷ 110 ∷ 110 ∷ 103 ∷ 250 ∷ 250 ∷ 250 ∷ [];
     }
 
--- 1001 and 1000, a tenth of a millimetre apart
+-- 1001 and 999, two tenths of a millimetre apart
+unfoldable pub two-tenths : Heights
+two-tenths =
+    record {
+      most = 0 ∷ 0 ∷ 3 ∷ 233 ∷ [];
+      third = 0 ∷ 0 ∷ 3 ∷ 231 ∷ [];
+      whole-checks = 0 ∷ 0 ∷ 83 ∷ 185 ∷ 0 ∷ 0 ∷ 44 ∷ 80 ∷ [];
+      blank-checks = 0 ∷ 0 ∷ 52 ∷ 116 ∷ 0 ∷ 0 ∷ 162 ∷ 49 ∷ [];
+    }
+
+-- 1001 and 1000, one tenth apart
 unfoldable pub a-tenth : Heights
 a-tenth =
     record {

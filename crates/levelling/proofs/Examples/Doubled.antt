@@ -1,8 +1,9 @@
--- No fewer exchanges do for every group: 0 and 2^k + 1 after 0 and 2^(k+1) + 1 is as far apart as the two promises allow, so that a spread of
--- 2^k + 1 may still be 2 after k exchanges. Assumes nothing.
-use mathlib.Core.Path.{_≡_, refl, _∙_, ap}
+-- No fewer exchanges do for all heights: 0 and p + 1 after 0 and 2p + 1 are as far apart as the two promises allow, so that a spread of
+-- 2^k·m + 1 may still be m + 1 after k exchanges. Assumes nothing.
+use mathlib.Core.Path.{_≡_, refl, sym, _∙_, ap, subst}
 use mathlib.Core.List.{List, [], _∷_}
-use Prim.Native.Nat.{ℕ, suc, _+_, _*_, _-_, _/_, _^_, _≤_}
+use Prim.Native.Nat.{ℕ, suc, _+_, _*_, _-_, _/_, _^_, _≤_, _<_}
+use native.Mathlib.Nat.{mul-assoc}
 use native.Mathlib.Omega.{arith}
 use lib.Dec.{le→leb}
 use lib.IntN.{ℤ, pos, _-ℤ_, +ℤ-idr}
@@ -11,9 +12,9 @@ use borrow.Author.Tests.{lt-ltb}
 use Rattle.gradecast.specs.Promise.{Among}
 use Rattle.level.specs.Level.{placed, ascending, halved}
 use Rattle.levelling.specs.Spread.{lowest, highest, spread, half-up}
-use Rattle.levelling.specs.Promise.{Between, Together, Levelled, No-fewer}
+use Rattle.levelling.specs.Promise.{Stay-inside, Come-near, No-fewer}
 use Rattle.levelling.proofs.Examples.Each.{each-of}
-use Rattle.levelling.proofs.Whole.{up-pos, down-pos, ordered, difference-parts}
+use Rattle.levelling.proofs.Whole.{above-pos, below-pos, parts-order, difference-parts}
 
 -- 0 and d + 1
 two : ℕ → List ℤ
@@ -39,45 +40,58 @@ inside : (d : ℕ) (z : ℤ) → Among z (two d) → Up-to d z
 unfolding two Up-to
 inside d z i = each-of (Up-to d) ((0, refl, omega arith), ((suc d, refl, omega arith), tt)) i
 
-below : (a b : ℕ) → a ≤ b → pos a ≤ℤ pos b
-below a b h = record { le = le→leb a b h }
+pos-order : (a b : ℕ) → a ≤ b → pos a ≤ℤ pos b
+pos-order a b h = record { le = le→leb a b h }
 
 near : (p a b : ℕ) → a ≤ suc p → (pos a -ℤ pos b) ≤ℤ half-up (spread (two (2 * p)))
 near p a b h =
     rw (half-two p)
-    (ordered (pos a -ℤ pos b) (pos (suc p))
+    (parts-order (pos a -ℤ pos b) (pos (suc p))
     (omega (
       arith,
       difference-parts (pos a) (pos b),
-      up-pos a,
-      up-pos b,
-      up-pos (suc p),
-      down-pos a,
-      down-pos b,
-      down-pos (suc p),
+      above-pos a,
+      above-pos b,
+      above-pos (suc p),
+      below-pos a,
+      below-pos b,
+      below-pos (suc p),
     )))
 
-two-levelled : (p : ℕ) → Levelled (two (2 * p)) (two p)
-unfolding Levelled Up-to
-two-levelled p y z i j = pair (inside p y i) (inside p z j)
-  where
-    between : (a : ℕ) → a ≤ suc p → Between (two (2 * p)) (pos a)
-    between a h = (rw (two-ends (2 * p) .0) (below 0 a (omega arith)), rw (two-ends (2 * p) .1) (below a (suc (2 * p)) (omega arith)))
+two-inside : (p : ℕ) → Stay-inside (two (2 * p)) (two p)
+unfolding Up-to
+two-inside p z i =
+    let a = inside p z i in
+    rw (a .1) (
+      rw (two-ends (2 * p) .0) (pos-order 0 (a .0) (omega arith)),
+      rw (two-ends (2 * p) .1) (pos-order (a .0) (suc (2 * p)) (omega (arith, a .2))),
+    )
 
-    pair : {y z : ℤ} → Up-to p y → Up-to p z → Together (two (2 * p)) y z
-    pair a b =
-        rw (a .1, b .1)
-        (record { between = (between (a .0) (a .2), between (b .0) (b .2)); near = (near p (a .0) (b .0) (a .2), near p (b .0) (a .0) (b .2)) })
+two-near : (p : ℕ) → Come-near (two (2 * p)) (two p)
+unfolding Up-to
+two-near p y z i j =
+    let a = inside p y i in
+    let b = inside p z j in
+    rw (a .1, b .1) (near p (a .0) (b .0) (a .2), near p (b .0) (a .0) (b .2))
+
+-- what is left of k exchanges after j of them
+module _ (k m : ℕ) where
+  so-far : ℕ → List ℤ
+  so-far j = two (2 ^ (k - j) * m)
+
+  halves-each : (j : ℕ) → j < k → so-far j ≡ two (2 * (2 ^ (k - suc j) * m))
+  unfolding so-far
+  halves-each j h =
+      let one-more : k - j ≡ suc (k - suc j) = omega arith in
+      let double : 2 ^ suc (k - suc j) ≡ 2 * 2 ^ (k - suc j) = omega arith in
+      ap two (ap (λ (i : ℕ). 2 ^ i * m) one-more ∙ ap (λ (p : ℕ). p * m) double ∙ mul-assoc 2 (2 ^ (k - suc j)) m)
 
 pub no-fewer : No-fewer
-unfolding No-fewer two
-no-fewer k = (
-  λ j. two (2 ^ (k - j)),
-  λ j h.
-      (let e : k - j ≡ suc (k - suc j) = omega arith in
-      let twice : 2 ^ suc (k - suc j) ≡ 2 * 2 ^ (k - suc j) = omega arith in
-      let d : 2 ^ (k - j) ≡ 2 * 2 ^ (k - suc j) = ap (λ (m : ℕ). 2 ^ m) e ∙ twice in
-      rw d (two-levelled (2 ^ (k - suc j)))),
-  ap (λ (m : ℕ). spread (two (2 ^ m))) (let e : k - 0 ≡ k = omega arith in e) ∙ two-spread (2 ^ k),
-  ap (λ (m : ℕ). spread (two (2 ^ m))) (let e : k - k ≡ 0 = omega arith in e) ∙ two-spread 1,
+unfolding No-fewer so-far
+no-fewer k m = (
+  so-far k m,
+  λ j h. subst (λ (old : List ℤ). Stay-inside old (so-far k m (suc j))) (sym (halves-each k m j h)) (two-inside _),
+  λ j h. subst (λ (old : List ℤ). Come-near old (so-far k m (suc j))) (sym (halves-each k m j h)) (two-near _),
+  two-spread _ ∙ ap (λ (i : ℕ). pos (suc (2 ^ i * m))) (let e : k - 0 ≡ k = omega arith in e),
+  two-spread _ ∙ ap (λ (i : ℕ). pos (suc (2 ^ i * m))) (let e : k - k ≡ 0 = omega arith in e) ∙ ap (λ (d : ℕ). pos (suc d)) (let e : 2 ^ 0 * m ≡ m = omega arith in e),
 )

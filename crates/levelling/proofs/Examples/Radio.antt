@@ -1,39 +1,39 @@
 -- The conditions can be met, and the bound is: four columns as built of which the last one's radio reaches only some. Columns 1 and 2 hold
 -- its height at confidence 1 and drop one at either end, column 3 holds nothing of it and drops none. At both ends of 32 bits their levels are
--- 2^31 − 1 and −1, which is half of the spread of 2^32 − 1, rounded up. And where column 3 stands a tenth below the others, all level where
--- they stand, so that a spread of a tenth stays, exchange after exchange. Assumes nothing.
-use mathlib.Core.Path.{_≡_, refl, sym, _∙_, ap}
+-- 2^31 − 1 and −1, and 2^31 apart, half of the spread of 2^32 − 1, rounded up. Where column 3 stands two tenths below the others, it levels
+-- one tenth below; there all level where they stand, so that a spread of a tenth stays, exchange after exchange. Assumes nothing.
+use mathlib.Core.Path.{_≡_, refl, sym, _∙_, ap, subst}
+use mathlib.Core.Bool.{true}
 use mathlib.Core.List.{List, [], _∷_, map, map-map}
-use Prim.Native.Nat.{ℕ, _^_, _<_}
+use Prim.Native.Nat.{ℕ, zero, suc, _*_, _^_, _≤_}
 use native.Mathlib.Omega.{arith}
 use lib.Dec.{le→leb}
 use lib.IntN.{ℤ, pos, negsuc, _-ℤ_}
-use lib.ListN.{length, getD}
+use lib.ListN.{getD}
 use lib.Pow.{pow-pos}
 use lib.Signed.{_≤ℤ_}
 use Rattle.grading.specs.Held.{Held, held-as}
 use Rattle.grading.specs.Value.{blank}
 use Rattle.code.specs.Settings.{value-size}
+use Rattle.code.specs.Plane.{byte-list}
 use Rattle.record.specs.Record.{Found, found-as, nothing-found}
 use Rattle.gradecast.specs.Promise.{Good, Among, first, other}
 use Rattle.gradecast.specs.Built.{Built, Built-conditions, defined}
 use Rattle.gradecast.proofs.Goods.{among-map}
 use Rattle.exchanges.proofs.Testing.Conditions.{good}
-use Rattle.exchanges.proofs.Building.Tested.{goods, tested-columns, tested-same, tested-conditions, tested-finished, tested-at}
-use Rattle.exchanges.proofs.Examples.Radio.{four-bytes, Heights, both-ends, a-tenth, height-at, radio-script, radio-scripts, radio-held, radio-found, radio-outcome}
-use Rattle.exchanges.proofs.Examples.Defined.{Radio-met, both-ends-met, a-tenth-met}
+use Rattle.exchanges.proofs.Building.Tested.{goods, tested-columns, tested-same, tested-conditions, tested-finished, tested-bytes, tested-at}
+use Rattle.exchanges.proofs.Examples.Radio.{four-bytes, Heights, both-ends, two-tenths, a-tenth, height-at, radio-script, radio-scripts, radio-held, radio-found, radio-outcome}
+use Rattle.exchanges.proofs.Examples.Defined.{Radio-met, both-ends-met, two-tenths-met, a-tenth-met}
 use Rattle.level.specs.Level.{bits, signed, height, confident, placed, ascending, blank-columns, dropped, without-ends, left, halved, middle, level-of}
-use Rattle.level.specs.Steps.Ends.{Short}
 use Rattle.levelling.specs.Spread.{lowest, highest, spread, half-up}
-use Rattle.levelling.specs.Promise.{Between, Together, Levelled, Halves, Levels-out, Stays-between, Thirty-two}
-use Rattle.levelling.specs.Built.{own-heights, At-level, Moved, Built-levelled, Built-levels-out, Built-stays-between}
+use Rattle.levelling.specs.Promise.{Between, Together}
+use Rattle.levelling.specs.Built.{own-heights, At-level, Moved, Built-repeated, Built-levels-out, Built-short-levels-out, Built-stays-between}
 use Rattle.levelling.proofs.Examples.Each.{each-of}
-use Rattle.levelling.proofs.Built.{level-answer, levels-together, built-levelled, built-levels-out, built-stays-between}
-use Rattle.levelling.proofs.Steps.{halves, levels-out, stays-between, thirty-two}
+use Rattle.levelling.proofs.Built.{level-answer, levels-together, built-levels-out, built-short-levels-out, built-stays-between}
 
 module _ (e : Heights) (x : Radio-met e) where
   -- the three good columns as built
-  columns : List Built
+  unfoldable pub columns : List Built
   columns = tested-columns four-bytes 7 (radio-scripts e) (x .meets)
 
   conditions : Built-conditions four-bytes 7 columns
@@ -97,68 +97,49 @@ bound-reached =
       ap spread heights,
     )
 
--- a tenth apart: each stands where it levels
-pub record Tenth-stays (bs : List Built) : Type 0 where
-  pub moved : Moved four-bytes 7 bs bs
-  pub tenth : spread (own-heights bs) ≡ pos 1
-  pub some : 0 < length (own-heights bs)
-  pub short : (z : ℤ) → Among z (own-heights bs) → Short z
+-- columns at 1001, 1001 and 999 level at 1001, 1001 and 1000, and there each levels where it stands
+level-of-a-tenth : (e : Heights) (x : Radio-met e) → level-of four-bytes (radio-held e 1) ≡ pos 1001 → level-of four-bytes (radio-held e 3) ≡ pos 1000 →
+    Moved four-bytes 7 (columns e x) (columns a-tenth a-tenth-met)
+unfolding a-tenth own-heights bits signed height
+level-of-a-tenth e x high low = record { conditions = conditions e x; four = refl; at-level = at-level }
+  where
+    at-high : At-level (columns e x) (pos 1001)
+    at-high = subst (At-level (columns e x)) high (level-one e x)
 
-pub tenth-stays : (bs : List Built) × Tenth-stays bs
-unfolding a-tenth radio-held held-as blank value-size own-heights bits signed height confident placed ascending blank-columns dropped without-ends left
-    halved middle level-of lowest highest spread
-tenth-stays = (
-  columns a-tenth a-tenth-met,
-  record {
-    moved = record { conditions = conditions a-tenth a-tenth-met; four = refl; at-level = at-level };
-    tenth = ap spread tenth-heights;
-    some = rw tenth-heights (omega arith);
-    short = λ z i. each-of Short (omega arith, (omega arith, (omega arith, tt))) (rw tenth-heights at i);
-  },
+    at-level : (b : Built) → Among b (columns a-tenth a-tenth-met) → At-level (columns e x) (height (b .own))
+    at-level b i =
+        each-of (At-level (columns e x)) (at-high, (at-high, (subst (At-level (columns e x)) low (level-three e x), tt)))
+        (rw (heights-are a-tenth a-tenth-met) at (among-map (λ b. height (b .own)) i))
+
+-- the columns before the first exchange, and after each
+unfoldable pub tenths : ℕ → List Built
+tenths zero = columns two-tenths two-tenths-met
+tenths (suc j) = columns a-tenth a-tenth-met
+
+pub tenths-moved : (k : ℕ) → Built-repeated k (λ j. four-bytes) (λ j. 7) tenths
+unfolding tenths two-tenths a-tenth radio-held held-as blank value-size bits signed height confident placed ascending blank-columns dropped without-ends
+    left halved middle level-of
+tenths-moved k zero h = level-of-a-tenth two-tenths two-tenths-met refl refl
+tenths-moved k (suc j) h = level-of-a-tenth a-tenth a-tenth-met refl refl
+
+first-bytes : (b : Built) → Among b (tenths 0) → byte-list (b .own) ≡ true
+unfolding tenths columns
+first-bytes = tested-bytes four-bytes 7 (radio-scripts two-tenths) (two-tenths-met .meets)
+
+-- a spread of two tenths is one tenth after one exchange, and one tenth stays, in any number of them
+pub tenths-spread : (spread (own-heights (tenths 0)) ≡ pos 2) × ((j : ℕ) → spread (own-heights (tenths (suc j))) ≡ pos 1)
+unfolding tenths two-tenths a-tenth bits signed height lowest highest spread ascending placed
+tenths-spread = (ap spread (heights-are two-tenths two-tenths-met), λ j. ap spread (heights-are a-tenth a-tenth-met))
+
+pub tenths-as-promised :
+    (k : ℕ) → (spread (own-heights (tenths (suc k))) ≤ℤ pos 1) × (spread (own-heights (tenths 32)) ≤ℤ pos 1)
+    × ((b : Built) → Among b (tenths k) → Between (own-heights (tenths 0)) (height (b .own)))
+unfolding Built-levels-out Built-short-levels-out Built-stays-between
+tenths-as-promised k = (
+  built-levels-out (suc k) 1 (λ j. four-bytes) (λ j. 7) tenths (tenths-moved (suc k)) (rw (tenths-spread .0) (record { le = le→leb 2 (2 ^ suc k * 1) enough })),
+  built-short-levels-out (λ j. four-bytes) (λ j. 7) tenths first-bytes (tenths-moved 32),
+  built-stays-between k (λ j. four-bytes) (λ j. 7) tenths (tenths-moved k),
 )
   where
-    tenth-heights : own-heights (columns a-tenth a-tenth-met) ≡ pos 1001 ∷ pos 1001 ∷ pos 1000 ∷ []
-    tenth-heights = heights-are a-tenth a-tenth-met
-
-    one : At-level (columns a-tenth a-tenth-met) (pos 1001)
-    one = level-one a-tenth a-tenth-met
-
-    at-level : (b : Built) → Among b (columns a-tenth a-tenth-met) → At-level (columns a-tenth a-tenth-met) (height (b .own))
-    at-level b i =
-        each-of (At-level (columns a-tenth a-tenth-met)) (one, (one, (level-three a-tenth a-tenth-met, tt)))
-        (rw tenth-heights at (among-map (λ b. height (b .own)) i))
-
--- so the conditions of every statement on repeated exchanges are met, of built columns and of numbers, for any number of exchanges
-module _ (k : ℕ) where
-  standing : List Built
-  standing = tenth-stays .0
-
-  moved : (j : ℕ) → j < k → Moved four-bytes 7 standing standing
-  unfolding standing
-  moved j h = tenth-stays .1 .moved
-
-  levelled : Levelled (own-heights standing) (own-heights standing)
-  unfolding standing Built-levelled
-  levelled = built-levelled four-bytes 7 standing standing (tenth-stays .1 .moved)
-
-  a-tenth-fits : spread (own-heights standing) ≤ℤ pos (2 ^ k)
-  unfolding standing
-  a-tenth-fits = rw (tenth-stays .1 .tenth) (record { le = le→leb 1 (2 ^ k) (pow-pos k) })
-
-  repeated : (spread (own-heights standing) ≤ℤ pos 1) × ((b : Built) → Among b standing → Between (own-heights standing) (height (b .own)))
-  unfolding Built-levels-out Built-stays-between
-  repeated = (
-    built-levels-out k (λ j. four-bytes) (λ j. 7) (λ j. standing) moved a-tenth-fits,
-    built-stays-between k (λ j. four-bytes) (λ j. 7) (λ j. standing) moved,
-  )
-
-  numbers-repeated :
-      (spread (own-heights standing) ≤ℤ half-up (spread (own-heights standing))) × (spread (own-heights standing) ≤ℤ pos 1)
-      × ((z : ℤ) → Among z (own-heights standing) → Between (own-heights standing) z) × (spread (own-heights standing) ≤ℤ pos 1)
-  unfolding Halves Levels-out Stays-between Thirty-two standing
-  numbers-repeated = (
-    halves (own-heights standing) (own-heights standing) levelled,
-    levels-out k (λ j. own-heights standing) (λ j h. levelled) a-tenth-fits,
-    stays-between k (λ j. own-heights standing) (λ j h. levelled) (λ j low h. tenth-stays .1 .some),
-    thirty-two (λ j. own-heights standing) (tenth-stays .1 .short) (λ j h. levelled),
-  )
+    enough : 2 ≤ 2 ^ suc k * 1
+    enough = let double : 2 ^ suc k ≡ 2 * 2 ^ k = omega arith in omega (arith, double, pow-pos k)
