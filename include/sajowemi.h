@@ -160,10 +160,10 @@ struct sajowemi_holdings sajowemi_result(struct sajowemi_column column);
  * at confidence 0, the t - b lowest and the t - b highest of the other heights are dropped, and the lowest and the highest left are added
  * and halved, rounded down; 22 where b is above t. Refused 1 to 4, 6, 17, 21 or 22, with zeros.
  *
- * Where at most t columns are bad, and the good columns' frames reach each other in time with nothing else under their slots, each good
- * column's level lies between the lowest and the highest good height, and the levels of two differ by at most half of the spread of good
- * heights, rounded up. So good columns that go to their levels and exchange again come together, until one tenth or nothing is left of
- * the spread; one that comes to stand at height 0 is refused 6 at its next opening. */
+ * Where at most t columns are bad, and the good columns' frames reach each other in time with nothing else under their slots, no good
+ * column in round 4 is refused its level; it lies between the lowest and the highest good height, and the levels of two differ by at most
+ * half of the spread of good heights, rounded up. So good columns that go to their levels and exchange again come together, until one tenth
+ * or nothing is left of the spread; one that comes to stand at height 0 is refused 6 at its next opening. */
 struct sajowemi_level sajowemi_level(struct sajowemi_column column);
 
 /* The 2 t check values of a vector of n values, in front of the output. Refused 1 to 3 or 18. */

@@ -113,10 +113,10 @@ impl Column {
     /// columns are blank, at confidence 0, the t - b lowest and the t - b highest of the other heights are dropped, and the lowest and the
     /// highest left are added and halved, rounded down. Refused where the column has not finished, where w is not 4, and where b is above t.
     ///
-    /// Where at most t columns are bad, and the good columns' frames reach each other in time with nothing else under their slots, each
-    /// good column's level lies between the lowest and the highest good height, and the levels of two differ by at most half of the spread
-    /// of good heights, rounded up. So good columns that go to their levels and exchange again come together, until one tenth or nothing is
-    /// left of the spread; one that comes to stand at height 0 is refused at its next opening, as blank.
+    /// Where at most t columns are bad, and the good columns' frames reach each other in time with nothing else under their slots, no good
+    /// column that has finished is refused its level; it lies between the lowest and the highest good height, and the levels of two differ
+    /// by at most half of the spread of good heights, rounded up. So good columns that go to their levels and exchange again come together,
+    /// until one tenth or nothing is left of the spread; one that comes to stand at height 0 is refused at its next opening, as blank.
     pub fn level(&self) -> Result<Level, Refusal> {
         let archive::Level {
             answer,
