@@ -64,7 +64,7 @@ Built-levels-out =
     (k m : ℕ) (s : ℕ → Settings) (run : ℕ → ℕ) (bs : ℕ → List Built) → Built-repeated k s run bs →
     spread (own-heights (bs 0)) ≤ℤ pos (2 ^ k * m) → spread (own-heights (bs k)) ≤ℤ pos m
 
--- whatever the first heights are, since own values are bytes, 32 of them are enough
+-- where the first own values are bytes, 32 exchanges are enough, whatever their heights are
 unfoldable pub Built-short-levels-out : Type 0
 Built-short-levels-out =
     (s : ℕ → Settings) (run : ℕ → ℕ) (bs : ℕ → List Built) → ((b : Built) → Among b (bs 0) → byte-list (b .own) ≡ true) →
