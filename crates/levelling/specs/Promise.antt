@@ -69,6 +69,12 @@ unfoldable pub Short-levels-out : Type 0
 Short-levels-out =
     (heights : ℕ → List ℤ) → ((z : ℤ) → Among z (heights 0) → Short z) → Repeated 32 Come-near heights → spread (heights 32) ≤ℤ pos 1
 
+-- and 31 are not: there are heights of 32 bits, which the promises hold of each time, whose spread is still 2 then
+unfoldable pub Short-needs-all : Type 0
+Short-needs-all =
+    (heights : ℕ → List ℤ) × ((z : ℤ) → Among z (heights 0) → Short z) × Repeated 31 Stay-inside heights × Repeated 31 Come-near heights
+    × (spread (heights 31) ≡ pos 2)
+
 -- no height leaves what the first ones are between, if there are heights after each exchange before the last
 unfoldable pub Stays-between : Type 0
 Stays-between =
