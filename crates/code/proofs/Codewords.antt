@@ -4,5 +4,6 @@ pub mod PowerSum
 pub mod Errors
 pub mod Word
 pub mod Near
+pub mod Tried
 pub mod Linear
 pub mod Quick

@@ -1,3 +1,4 @@
 pub mod Lane
 pub mod Multiples
 pub mod Bits
+pub mod Tables

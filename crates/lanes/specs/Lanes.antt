@@ -14,6 +14,10 @@ row-width = 8
 abbrev pub multiple-rows : ℕ
 multiple-rows = row-width * 16
 
+-- room for both tables of a value
+abbrev pub table-room : ℕ
+table-room = 2 * multiple-rows
+
 -- where row j's byte of plane p stands
 abbrev pub in-row : (j p : ℕ) → ℕ
 in-row j p = row-width * j + p
@@ -27,6 +31,18 @@ lane p (suc k) bs = getD bs p 0 ∷ lane p k (drop row-width bs)
 pub record Multiples (many : ℕ) (f : ℕ → ℕ) (rows : List ℕ) : Type 0 where
   pub long : length rows ≡ multiple-rows
   pub row : (k p : ℕ) → k < many → p < row-width → getD rows (in-row k p) 0 ≡ times (f p) k
+
+-- both tables of the value with the bytes f stand from a place on: its multiples by the low and by the high half of a byte
+pub record Tables (at : ℕ) (f : ℕ → ℕ) (tables : List ℕ) : Type 0 where
+  pub low : (k p : ℕ) → k < 16 → p < row-width → getD tables (at + in-row k p) 0 ≡ times (f p) k
+  pub high : (k p : ℕ) → k < 16 → p < row-width → getD tables (at + multiple-rows + in-row k p) 0 ≡ times (doubled (times (f p) 8)) k
+
+-- and every other byte is kept
+pub record Tables-put (at : ℕ) (f : ℕ → ℕ) (tables tables-now : List ℕ) : Type 0 where
+  pub long : length tables-now ≡ length tables
+  pub put : Tables at f tables-now
+  pub before : (i : ℕ) → i < at → getD tables-now i 0 ≡ getD tables i 0
+  pub after : (i : ℕ) → at + table-room ≤ i → getD tables-now i 0 ≡ getD tables i 0
 
 -- where the first rows are so many multiples of any value of bytes, they now are more of them
 abbrev pub Continued : (many more : ℕ) → (rows rows-now : List ℕ) → Type 0

@@ -9,13 +9,16 @@ ghost use lib.Dec.{eqb};
 ghost use lib.ListN.{length, getD};
 ghost use Rattle.arrays.specs.Array.{Written};
 ghost use Rattle.field.specs.Field.{plus, doubled, times};
-ghost use Rattle.lanes.specs.Lanes.{row-width, multiple-rows, in-row, Multiples, Continued, Doublings, Products-added};
+ghost use Rattle.lanes.specs.Lanes.{row-width, multiple-rows, table-room, in-row, Multiples, Tables, Tables-put, Continued, Doublings, Products-added};
 
 // The byte planes that a row has room for, and so at least the most bytes of a value.
 pub const ROW_WIDTH: usize = 8;
 
 // A row for each multiple of a value by half a byte.
 const MULTIPLE_ROWS: usize = ROW_WIDTH * 16;
+
+// Room for both tables of a value.
+pub const TABLE_ROOM: usize = 2 * MULTIPLE_ROWS;
 
 // Where the eighth multiple stands.
 const EIGHTH: usize = ROW_WIDTH * 8;
@@ -202,4 +205,44 @@ pub fn add_products(value: &[u8], constants: &[u8], rows: &mut [u8])
         return;
     }
     add_by_tables(value, constants, rows);
+}
+
+// Both tables of a value, the low one first, written from a place on: for products with constants that come one at a time.
+pub fn put_tables(value: &[u8], tables: &mut [u8], at: usize)
+    requires { ⌜ (length (now value) ≡ row-width) × (at + table-room ≤ length (now tables)) ⌝ }
+    ensures { λ _. ⌜ Tables-put at (λ p. getD (now (value .entry)) p 0) (now (tables .entry)) (now (tables .exit)) ⌝ }
+{
+    let mut low = first_rows(value);
+    multiply(&mut low);
+    let mut high = sixteenth_rows(&low);
+    multiply(&mut high);
+    arrays::copy(tables, at, &low, 0, MULTIPLE_ROWS);
+    arrays::copy(tables, at + MULTIPLE_ROWS, &high, 0, MULTIPLE_ROWS);
+}
+
+// The row of bytes from a place on, with two rows of the tables added in one step.
+fn add_both(rows: &mut [u8], to: usize, tables: &[u8], low: usize, high: usize)
+    requires { ⌜ (to + row-width ≤ length (now rows)) × (low + row-width ≤ length (now tables)) × (high + row-width ≤ length (now tables)) ⌝ }
+    ensures { λ _. ⌜ Written to row-width (λ p. plus (getD (now (rows .entry)) (to + p) 0) (plus (getD (now (tables .entry)) (low + p) 0) (getD (now (tables .entry)) (high + p) 0))) (now (rows .entry)) (now (rows .exit)) ⌝ }
+{
+    let mut p = 0;
+    while p < ROW_WIDTH {
+        rows[to + p] = field::sum(rows[to + p], field::sum(tables[low + p], tables[high + p]));
+        p += 1;
+    }
+}
+
+// The row of bytes from a place on, with a constant times the value added whose tables stand from `at` on.
+pub fn add_from_tables(tables: &[u8], at: usize, constant: u8, rows: &mut [u8], to: usize)
+    requires { ⌜ (at + table-room ≤ length (now tables)) × (to + row-width ≤ length (now rows)) ⌝ }
+    ensures { λ _. ⌜ ((f : ℕ → ℕ) → ((p : ℕ) → f p < 256) → Tables at f (now (tables .entry)) → Written to row-width (λ p. plus (getD (now (rows .entry)) (to + p) 0) (times (f p) constant)) (now (rows .entry)) (now (rows .exit))) ⌝ }
+{
+    let c = constant as usize;
+    add_both(
+        rows,
+        to,
+        tables,
+        at + ROW_WIDTH * (c % 16),
+        at + MULTIPLE_ROWS + ROW_WIDTH * (c / 16),
+    );
 }

@@ -1,5 +1,5 @@
 -- The decoder of a plane, for zero bytes and the difference of checks: errors that explain the syndromes are the answer, wherever
--- they are from; and where those that the locator tells do not, or it is longer than t, no codeword is near. Assumes nothing.
+-- they are from; and where a codeword is near, the locator is no longer than t and has all its roots among the places. Assumes nothing.
 use mathlib.Core.Path.{_≡_, sym, _∙_, ap₂}
 use mathlib.Core.List.{List}
 use Prim.Native.Nat.{ℕ, _+_, _<_, _≤_}
@@ -15,10 +15,11 @@ use Rattle.code.specs.Repair.{Near}
 use Rattle.arrays.proofs.Bytes.{Bytes, bytes-zeros}
 use Rattle.code.proofs.Codewords.Word.{Shape}
 use Rattle.locator.specs.Locator.{massey}
-use Rattle.locator.specs.Errors.{error-byte, mended, Located, Explained, Near-errors, Error-bytes}
+use Rattle.locator.specs.Errors.{error-byte, mended, Explained, Near-errors, Error-bytes}
+use Rattle.locator.specs.Search.{at-place, roots-below}
 use Rattle.locator.proofs.Errors.Mended.{mended-length, mended-at}
 use Rattle.locator.proofs.Decoding.Sound.{explained-near}
-use Rattle.locator.proofs.Decoding.Complete.{near-size, near-explained}
+use Rattle.locator.proofs.Decoding.Complete.{near-size, near-counted}
 
 -- zero bytes with their errors added are the errors
 pub mended-zeros : (s : Settings) (ys es : List ℕ) → s .n ≤ length ys → Error-bytes s ys es → es ≡ mended s 0 (replicate (s .n) 0) (take (s .n) ys)
@@ -54,5 +55,6 @@ module _ (s : Settings) (cs : List ℕ) (S : ℕ → ℕ) (r : settings-refusal 
     pub complete-size : massey S (check-count s) .size ≤ s .t
     complete-size = near-size s (replicate (s .n) 0) cs us ds S r shape same near
 
-    pub complete : (ys : List ℕ) → Located s S ys → Explained s S ys
-    complete ys located = near-explained s (replicate (s .n) 0) cs us ds S r shape same near ys located
+    -- the locator has all its roots among the places
+    pub complete-counted : roots-below (at-place s (massey S (check-count s) .locator)) (s .n + check-count s) ≡ massey S (check-count s) .size
+    complete-counted = near-counted s (replicate (s .n) 0) cs us ds S r shape same near

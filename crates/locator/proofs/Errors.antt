@@ -2,4 +2,5 @@
 pub mod Places
 pub mod Totals
 pub mod Mended
-pub mod Geometric
+pub mod Last
+pub mod Marks

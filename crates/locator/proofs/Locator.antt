@@ -1,6 +1,10 @@
--- The locator by Berlekamp and Massey: what its steps keep, how long it grows, and the errors at its roots.
+-- The locator by Berlekamp and Massey: what its steps keep, how long it grows, the errors at its roots, and that as many roots among
+-- the places as it is long explain its sums.
 pub mod Shape
 pub mod Massey
 pub mod Size
 pub mod Roots
 pub mod Held
+pub mod Along
+pub mod Recurrence
+pub mod Progression

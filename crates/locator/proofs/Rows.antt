@@ -1,3 +1,2 @@
 -- A plane of the rows, read and written byte by byte.
 pub mod Lanes
-pub mod Listing

@@ -6,11 +6,13 @@ ghost use mathlib.Core.Path.{_≡_};
 ghost use Prim.Native.Nat.{_+_, _*_, _-_, _<_, _≤_};
 ghost use lib.ListN.{length, getD, take};
 ghost use Rattle.field.specs.Table.{Powers, Logarithms};
+ghost use Rattle.lanes.specs.Lanes.{row-width, in-row, lane};
 ghost use Rattle.code.specs.Size.{plane-room};
 ghost use Rattle.code.specs.Polynomial.{added, «scaled»};
 ghost use Rattle.locator.specs.Locator.{against, «raised», value, massey, longer, «as-long»};
 ghost use Rattle.locator.specs.Held.{Stands, Carries, located};
 use code::sizes::PLANE_ROOM;
+use lanes::ROW_WIDTH;
 
 // The locator, monic of degree `size`, and the last one before it grew, scaled to discrepancy 1. Coefficients past theirs are 0.
 pub struct Locator {
@@ -44,28 +46,34 @@ fn discrepancy(
     sum
 }
 
-// The weighted error at the place x, 0 where x is no root. One loop gives the locator's value at x, and its quotient's value and
-// sum against the power sums.
+// The weighted error of plane p at the place x, 0 where x is no root. One loop over the rows of coefficients and sums gives the
+// locator's value at x, and its quotient's value and sum against the power sums.
 pub fn error_at(
     powers: &[u8; 255],
     logarithms: &[u8; 256],
-    locator: &[u8],
+    coefficients: &[u8],
     sums: &[u8],
+    p: usize,
+    many: usize,
     x: u8,
 ) -> u8
     requires { ⌜ Powers (now powers) × Logarithms (now logarithms) ⌝ }
-    requires { ⌜ length (now locator) ≤ length (now sums) ⌝ }
-    ensures { λ r. ⌜ r ≡ value (λ i. getD (now (sums .entry)) i 0) (now (locator .entry)) x ⌝ }
+    requires { ⌜ (p < row-width) × (row-width * many ≤ length (now coefficients)) × (row-width * many ≤ length (now sums)) ⌝ }
+    ensures { λ r. ⌜ r ≡ value (λ i. getD (now (sums .entry)) (in-row i p) 0) (lane p many (now (coefficients .entry))) x ⌝ }
 {
     let mut whole: u8 = 0;
     let mut divided: u8 = 0;
     let mut sum: u8 = 0;
-    let mut m = locator.len();
+    let mut m = many;
     while 0 < m {
         m -= 1;
-        sum = field::sum(field::product_by(powers, logarithms, whole, sums[m]), sum);
+        let at = ROW_WIDTH * m + p;
+        sum = field::sum(field::product_by(powers, logarithms, whole, sums[at]), sum);
         divided = field::sum(whole, field::product_by(powers, logarithms, x, divided));
-        whole = field::sum(locator[m], field::product_by(powers, logarithms, x, whole));
+        whole = field::sum(
+            coefficients[at],
+            field::product_by(powers, logarithms, x, whole),
+        );
     }
     if whole == 0 {
         return field::product_by(

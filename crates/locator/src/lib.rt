@@ -1,4 +1,4 @@
-// The decoder of one plane of a word: its locator, the errors at the roots, and one error told by its sums.
+// The decoder of one plane of a word: its locator, the error at a root, and the test for one error.
 pub mod berlekamp;
 pub mod plane;
 pub mod single;

@@ -1,19 +1,19 @@
--- From what the decoder of all planes finds to the answer: where a plane does not decode, it has no codeword near; where all do,
--- the vector of their errors is the zeros repaired, and a row with an error is a place changed; and where the checks are the same, the
--- zeros need no repair. Assumes nothing.
+-- From what the search of all planes finds to the answer: where roots are left in a plane, it has no codeword near; where none are left in
+-- any, the vector of their errors is the zeros repaired, and a row with an error is a place changed; and where the checks are the same, the
+-- zeros need no repair, and no place is tried. Assumes nothing.
 use mathlib.Core.Path.{_≡_, refl, sym, _∙_, ap, ap₂}
-use mathlib.Core.Bool.{Bool, true, false}
-use mathlib.Core.List.{List}
+use mathlib.Core.Bool.{true, false}
+use mathlib.Core.List.{List, _++_}
 use mathlib.Core.Logic.{inl, inr}
-use Prim.Native.Nat.{ℕ, zero, suc, _+_, _*_, _-_, _≤_, _<_}
+use Prim.Native.Nat.{ℕ, zero, suc, _+_, _*_, _≤_, _<_}
 use native.Mathlib.Omega.{arith}
 use lib.Dec.{eqb}
 use lib.ListN.{length, getD, drop, replicate, length-replicate, length-drop, getD-replicate}
 use lib.Seq.{take-all, getD-drop}
 use Rattle.arrays.specs.Array.{in-front, all-zero}
-use Rattle.arrays.proofs.Zeros.{some-not-zero}
+use Rattle.arrays.proofs.Zeros.{zeros-at, some-not-zero}
 use Rattle.lanes.specs.Lanes.{row-width, in-row, lane}
-use Rattle.code.specs.Size.{place-rows}
+use Rattle.code.specs.Size.{value-room}
 use Rattle.code.specs.Settings.{Settings, settings, settings-refusal, check-count, value-size}
 use Rattle.code.specs.Polynomial.{root}
 use Rattle.code.specs.Plane.{is-codeword}
@@ -21,29 +21,31 @@ use Rattle.field.specs.Field.{plus}
 use Rattle.field.proofs.Xor.{zero-plus}
 use Rattle.field.proofs.Times.{times-lt}
 use Rattle.code.specs.Vector.{plane, is-vector, differ-values, cut, glued}
-use Rattle.code.specs.Repair.{Repaired, changed-places}
+use Rattle.code.specs.Repair.{Near, Repaired, changed-places, Tried}
 use Rattle.code.specs.Entry.{values-in}
 use Rattle.arrays.proofs.Bytes.{Bytes, byte-at, bytes-zeros}
 use Rattle.code.proofs.Vectors.Cut.{cut-length, cut-values, glued-cut}
 use Rattle.lanes.proofs.Lane.{lane-length, lane-at, lane-zeros}
 use Rattle.code.proofs.Codewords.Near.{differ-self}
+use Rattle.code.proofs.Codewords.Tried.{last-difference-self}
 use Rattle.code.proofs.Vectors.Planes.{Values, plane-bytes, vector-of, vector-back, checks-back, differ-values-self}
 use Rattle.code.proofs.Vectors.ByPlanes.{by-planes, by-planes-length, by-planes-values, by-planes-plane}
 use Rattle.code.proofs.ValidSettings.{sizes}
 use Rattle.code.proofs.Codewords.Word.{word-back}
 use Rattle.locator.specs.Errors.{error-byte, mended, Error-bytes}
 use Rattle.repair.specs.Difference.{plus-values, zeros}
-use Rattle.repair.specs.Entry.{Done-by, none-found}
+use Rattle.repair.specs.Entry.{Done-by, Tried-by, none-found, none-tried}
 use Rattle.sums.specs.Rows.{Values-added}
 use Rattle.repair.specs.Steps.Changed.{wrong-rows}
 use Rattle.repair.specs.Steps.Columns.{column-errors}
-use Rattle.repair.specs.Steps.Planes.{Decoded, Decoded-as}
+use Rattle.search.specs.Planes.{Decoded}
 use Rattle.sums.proofs.Sums.CheckRows.{values-lane}
 use Rattle.sums.proofs.Sums.CheckSums.{syndrome-zeros, summed-zeros}
 use Rattle.locator.proofs.Decoder.{mended-zeros}
 use Rattle.locator.proofs.Errors.Mended.{mended-length, mended-bytes, mended-at, error-there}
 use Rattle.repair.proofs.ColumnErrors.{column-errors-vector, column-errors-plane}
 use Rattle.repair.proofs.WrongRows.{wrong-rows-plus, rows-changed}
+use Rattle.repair.proofs.FoundPlanes.{all-near, none-somewhere, tried-each}
 use Rattle.repair.proofs.Difference.Values.{zero-values, plus-zeros, plane-plus, plane-zeros, plus-values-length, plus-values-values}
 
 glued-whole : (n w : ℕ) (vector : List ℕ) → length vector ≡ n * w → glued (cut n w vector) ≡ vector
@@ -54,12 +56,6 @@ pub some-bad :
     (t w : ℕ) (own checks rows : List ℕ) → all-zero rows ≡ false → Values-added (2 * t) w own checks rows → 1 ≤ t
 some-bad zero w own checks rows z d = let (i, inside, other) = some-not-zero rows z in absurd (other (d .beyond i (omega arith)))
 some-bad (suc t) w own checks rows z d = omega arith
-
-pub decoded-long :
-    (found : Bool) (planes : ℕ) (s : Settings) (sums weighted : List ℕ) → found ≡ true → Decoded-as found planes s sums weighted → length weighted ≡ place-rows
-unfolding Decoded-as
-decoded-long true planes s sums weighted e d = d .long
-decoded-long false planes s sums weighted e d = absurd (let y : _≡_ {A = ℕ} 0 1 = cc in omega arith)
 
 module _ (n t w : ℕ) (vector own checks rows : List ℕ) (allowed : settings-refusal (settings n t w) ≡ 0) (own-bytes : Bytes own) (check-bytes : Bytes checks) (own-long : length own ≡ 2 * t * w) (checks-long : length checks ≡ 2 * t * w) (difference : Values-added (2 * t) w own checks rows) where
   abbrev s : Settings
@@ -93,21 +89,34 @@ module _ (n t w : ℕ) (vector own checks rows : List ℕ) (allowed : settings-r
   apart-many : length apart ≡ 2 * t
   apart-many = plus-values-length ours theirs (cut-length (2 * t) w own ∙ sym (cut-length (2 * t) w checks)) ∙ cut-length (2 * t) w own
 
-  -- some plane has no codeword near
-  pub answer-none :
-      (found : Bool) (weighted out : List ℕ) → found ≡ false → Decoded-as found w s rows weighted → Done-by s (values-in s n vector) ours theirs none-found 0 out out
-  unfolding settings check-count value-size Decoded-as Done-by
-  answer-none true weighted out e d = absurd (let z : _≡_ {A = ℕ} 0 1 = cc in omega arith)
-  answer-none false weighted out e (p, h, none) =
-      inr (
-        refl,
-        refl,
-        record { at-plane = p; inside = h; none-near = λ us ds near. none us ds (rw (plane-zeros s p, sym (apart-lane p h)) at near) },
-        refl,
-      )
+  -- what the search found, and the places that it tried
+  module _ (left tried weighted : List ℕ) (d : Decoded w s rows left tried weighted) where
+    tried-places : Tried-by s ours theirs tried
+    unfolding Tried-by settings check-count value-size
+    tried-places =
+        record {
+          long = d .tried-long;
+          each = λ p h.
+              rw (plane-zeros s p, sym (apart-lane p h)) (tried-each w s rows left tried weighted d p h (rw (apart-lane p h) (apart-bytes p)));
+          others = λ p h. d .rest p h .1;
+        }
+
+    -- some plane has no codeword near
+    pub answer-none : (out : List ℕ) → all-zero left ≡ false → Done-by s (values-in s n vector) ours theirs none-found 0 out out × Tried-by s ours theirs tried
+    unfolding settings check-count value-size Done-by
+    answer-none out e =
+        let (p, h, none) = none-somewhere w s rows left tried weighted d e in (
+          inr (
+            refl,
+            refl,
+            record { at-plane = p; inside = h; none-near = λ us ds near. none us ds (rw (plane-zeros s p, sym (apart-lane p h)) at near) },
+            refl,
+          ),
+          tried-places,
+        )
 
   -- every plane has one
-  module _ (weighted : List ℕ) (small : w ≤ row-width) (d : Decoded w s rows weighted) where
+  module _ (left tried weighted : List ℕ) (small : w ≤ row-width) (none-left : all-zero left ≡ true) (d : Decoded w s rows left tried weighted) where
     abbrev errors : List (List ℕ)
     errors = column-errors n 0 w weighted
 
@@ -149,7 +158,7 @@ module _ (n t w : ℕ) (vector own checks rows : List ℕ) (allowed : settings-r
                 checks-plane p h,
                 mended-zeros s (lane p (n + 2 * t) weighted) _ (omega (arith, lane-length p (n + 2 * t) weighted)) (errors-at p h),
               )
-              (d .each p h .near);
+              (all-near w s rows left tried weighted d none-left p h .near);
         }
 
     -- a row with an error is a place changed: the columns' rows, and behind them the checks'
@@ -195,39 +204,22 @@ module _ (n t w : ℕ) (vector own checks rows : List ℕ) (allowed : settings-r
     unfolding changed-places
     changed-rows = wrong-rows-plus n (2 * t) weighted ∙ sym (ap₂ _+_ columns-changed checks-changed)
 
-  pub answer-found :
-      (found : Bool) (changed : ℕ) (weighted out now : List ℕ) → w ≤ row-width → found ≡ true → Decoded-as found w s rows weighted →
-      changed ≡ wrong-rows (n + 2 * t) weighted → now ≡ in-front (glued (plus-values (cut n w vector) (column-errors n 0 w weighted))) out →
-      Done-by s (values-in s n vector) ours theirs 0 changed out now
-  unfolding settings value-size Decoded-as Done-by values-in
-  answer-found false changed weighted out now small e d count back = absurd (let z : _≡_ {A = ℕ} 0 1 = cc in omega arith)
-  answer-found true changed weighted out now small e d count back =
-      inl (refl, (errors weighted small d, found-checks weighted small d, repaired weighted small d, count ∙ changed-rows weighted small d, back))
+    pub answer-found :
+        (changed : ℕ) (out now : List ℕ) → changed ≡ wrong-rows (n + 2 * t) weighted →
+        now ≡ in-front (glued (plus-values (cut n w vector) (column-errors n 0 w weighted))) out →
+        Done-by s (values-in s n vector) ours theirs 0 changed out now × Tried-by s ours theirs tried
+    unfolding settings value-size Done-by values-in
+    answer-found changed out now count back =
+        (inl (refl, (errors, found-checks, repaired, count ∙ changed-rows, back)), tried-places left tried weighted d)
 
   -- the difference is zero: the zeros are a codeword with no checks
-  pub answer-same :
-      (out now : List ℕ) → w ≤ row-width → ((i : ℕ) → getD rows i 0 ≡ 0) → length vector ≡ n * w → Bytes vector → now ≡ in-front vector out →
-      Done-by s (values-in s n vector) ours theirs 0 0 out now
-  unfolding settings check-count value-size Done-by values-in zeros changed-places
-  answer-same out now small z l b back =
-      inl (
-        refl,
-        (
-          zeros s,
-          apart,
-          record {
-            vector = vector-back s (zeros s) (record { many = length-replicate n (replicate w 0); values = zero-values n w });
-            checks = checks-back s apart apart-many apart-values;
-            planes = λ p h.
-                record {
-                  codeword = ap₂ (is-codeword s) (plane-zeros s p) (sym (apart-lane p h) ∙ lane-zeros p (2 * t) rows (λ j k. z (in-row j p))) ∙ zero-codeword;
-                  within = omega (arith, differ-self (plane p (zeros s)), differ-self (plane p apart));
-                };
-          },
-          omega (arith, differ-values-self (zeros s), differ-values-self apart),
-          back ∙ ap (λ (bs : List ℕ). in-front bs out) (sym (glued-whole n w vector l) ∙ ap glued (sym (plus-zeros n w vector l b))),
-        ),
-      )
+  near-same : ((i : ℕ) → getD rows i 0 ≡ 0) → (p : ℕ) → p < w → Near s (plane p (zeros s)) (plane p apart) (plane p (zeros s)) (plane p apart)
+  unfolding settings check-count
+  near-same z p h =
+      record {
+        codeword = ap₂ (is-codeword s) (plane-zeros s p) (sym (apart-lane p h) ∙ lane-zeros p (2 * t) rows (λ j k. z (in-row j p))) ∙ zero-codeword;
+        within = omega (arith, differ-self (plane p (zeros s)), differ-self (plane p apart));
+      }
     where
       zero-codeword : is-codeword s (replicate n 0) (replicate (2 * t) 0) ≡ true
       zero-codeword =
@@ -242,3 +234,29 @@ module _ (n t w : ℕ) (vector own checks rows : List ℕ) (allowed : settings-r
                 };
             roots = λ i h. syndrome-zeros s i n (replicate (2 * t) 0) ∙ summed-zeros (root i) _ (2 * t);
           })
+
+  pub answer-same :
+      (out now : List ℕ) → ((i : ℕ) → getD rows i 0 ≡ 0) → length vector ≡ n * w → Bytes vector → now ≡ in-front vector out →
+      Done-by s (values-in s n vector) ours theirs 0 0 out now × Tried-by s ours theirs none-tried
+  unfolding settings check-count value-size Done-by Tried-by Tried none-tried values-in zeros changed-places
+  answer-same out now z l b back = (
+    inl (
+      refl,
+      (
+        zeros s,
+        apart,
+        record {
+          vector = vector-back s (zeros s) (record { many = length-replicate n (replicate w 0); values = zero-values n w });
+          checks = checks-back s apart apart-many apart-values;
+          planes = near-same z;
+        },
+        omega (arith, differ-values-self (zeros s), differ-values-self apart),
+        back ∙ ap (λ (bs : List ℕ). in-front bs out) (sym (glued-whole n w vector l) ∙ ap glued (sym (plus-zeros n w vector l b))),
+      ),
+    ),
+    record {
+      long = length-replicate {A = ℕ} value-room 0;
+      each = λ p h. inl (_, _, near-same z p h, zeros-at value-room p ∙ sym (last-difference-self (plane p (zeros s) ++ plane p apart)));
+      others = λ p h. zeros-at value-room p;
+    },
+  )

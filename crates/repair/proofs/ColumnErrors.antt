@@ -24,7 +24,7 @@ use Rattle.code.proofs.Vectors.Cut.{next-value, cut-length}
 use Rattle.repair.specs.Difference.{plus-values}
 use Rattle.repair.specs.Steps.Columns.{column-errors}
 use Rattle.arrays.proofs.Part.{part-long}
-use Rattle.sums.proofs.AllPlaces.Powers.{weight-inverse}
+use Rattle.sums.proofs.AtPlace.Powers.{weight-inverse}
 use mathlib.Core.Bool.{true}
 use Rattle.field.proofs.Logarithm.{times-comm}
 use Rattle.field.proofs.Division.{inverse-lt}

@@ -11,8 +11,9 @@ use lib.Dec.{eqb, ltb}
 use lib.ListN.{length}
 use borrow.Author.Tests.{eq-eqb, ne-eqb, le-ltb, eqb-true, ltb-false}
 use Rattle.code.specs.Settings.{Settings, settings, settings-refusal, check-count, value-size}
+use Rattle.code.specs.Repair.{Tried-planes}
 use Rattle.code.specs.Entry.{values-in}
-use Rattle.repair.specs.Entry.{repair-refusal, Done, Repair-as, Repair-says, repair-by-refusal, Done-by, Repair-by-as, Repair-by-says}
+use Rattle.repair.specs.Entry.{repair-refusal, Done, none-tried, Repair-as, Repair-says, repair-by-refusal, Done-by, Tried-by, Repair-by-as, Repair-by-says}
 
 -- three tests of lengths
 some-refuses : (a b d : Bool) → (a ≡ false) ⊎ ((b ≡ false) ⊎ (d ≡ true)) → _≡_ {A = ℕ} (cond (not a || (not b || d)) 18 0) 18
@@ -39,6 +40,10 @@ by-passed s v d c k e = go (eqb (repair-refusal s v c k) 0) refl e
         cond (not q) (repair-refusal s v c k) (cond (eqb d (check-count s * value-size s)) 0 18) ≡ 0 → repair-refusal s v c k ≡ 0
     go true f z = eqb-true _ _ f
     go false f z = z
+
+-- an answer for which no place was tried, and so none changed
+abbrev pub Untried : (number answer changed : ℕ) → (tried : List ℕ) → Type 0
+Untried number r m k = (r ≡ number) × (m ≡ 0) × (k ≡ none-tried)
 
 module _ (n t w : ℕ) where
   -- the number
@@ -83,37 +88,40 @@ module _ (n t w : ℕ) where
 
   -- what the calls say
   module _ (vector checks out : List ℕ) where
-    refused-as : (k : ℕ) → (k ≡ 0 → ⊥) → Repair-as k (settings n t w) vector checks k 0 out out
+    refused-as : (number r m : ℕ) (k : List ℕ) → (number ≡ 0 → ⊥) → Untried number r m k → Repair-as number (settings n t w) vector checks r m k out out
     unfolding Repair-as
-    refused-as zero h = absurd (h refl)
-    refused-as (suc k) h = (refl, refl, refl)
+    refused-as zero r m k h u = absurd (h refl)
+    refused-as (suc i) r m k h u = (u .0, u .1, u .2, refl)
 
     pub repair-refused :
-        (r : ℕ) → r ≡ repair-refusal (settings n t w) (length vector) (length checks) (length out) → (r ≡ 0 → ⊥) → Repair-says n t w vector checks r 0 out out
+        (number r m : ℕ) (k : List ℕ) → number ≡ repair-refusal (settings n t w) (length vector) (length checks) (length out) → (number ≡ 0 → ⊥) →
+        Untried number r m k → Repair-says n t w vector checks r m k out out
     unfolding Repair-says
-    repair-refused r e h = subst (λ (j : ℕ). Repair-as j (settings n t w) vector checks r 0 out out) e (refused-as r h)
+    repair-refused number r m k e h u = subst (λ (i : ℕ). Repair-as i (settings n t w) vector checks r m k out out) e (refused-as number r m k h u)
 
     pub repair-done :
-        (r m : ℕ) (now : List ℕ) → repair-refusal (settings n t w) (length vector) (length checks) (length out) ≡ 0 →
-        Done (settings n t w) (values-in (settings n t w) n vector) (values-in (settings n t w) (2 * t) checks) r m out now →
-        Repair-says n t w vector checks r m out now
+        (r m : ℕ) (k now : List ℕ) → repair-refusal (settings n t w) (length vector) (length checks) (length out) ≡ 0 →
+        Done (settings n t w) (values-in (settings n t w) n vector) (values-in (settings n t w) (2 * t) checks) r m out now
+        × Tried-planes (settings n t w) (values-in (settings n t w) n vector) (values-in (settings n t w) (2 * t) checks) k →
+        Repair-says n t w vector checks r m k out now
     unfolding Repair-says Repair-as settings check-count
-    repair-done r m now e d = subst (λ (j : ℕ). Repair-as j (settings n t w) vector checks r m out now) (sym e) d
+    repair-done r m k now e d = subst (λ (i : ℕ). Repair-as i (settings n t w) vector checks r m k out now) (sym e) d
 
     module _ (own : List ℕ) where
-      by-as : (k : ℕ) → (k ≡ 0 → ⊥) → Repair-by-as k (settings n t w) vector own checks k 0 out out
+      by-as : (number r m : ℕ) (k : List ℕ) → (number ≡ 0 → ⊥) → Untried number r m k → Repair-by-as number (settings n t w) vector own checks r m k out out
       unfolding Repair-by-as
-      by-as zero h = absurd (h refl)
-      by-as (suc k) h = (refl, refl, refl)
+      by-as zero r m k h u = absurd (h refl)
+      by-as (suc i) r m k h u = (u .0, u .1, u .2, refl)
 
       pub repair-by-refused :
-          (r : ℕ) → r ≡ repair-refusal (settings n t w) (length vector) (length checks) (length out) → (r ≡ 0 → ⊥) →
-          Repair-by-says n t w vector own checks r 0 out out
+          (number r m : ℕ) (k : List ℕ) → number ≡ repair-refusal (settings n t w) (length vector) (length checks) (length out) → (number ≡ 0 → ⊥) →
+          Untried number r m k → Repair-by-says n t w vector own checks r m k out out
       unfolding Repair-by-says repair-by-refusal
-      repair-by-refused r e h = subst (λ (j : ℕ). Repair-by-as j (settings n t w) vector own checks r 0 out out) (sym same) (by-as r h)
+      repair-by-refused number r m k e h u =
+          subst (λ (i : ℕ). Repair-by-as i (settings n t w) vector own checks r m k out out) (sym same) (by-as number r m k h u)
         where
-          same : repair-by-refusal (settings n t w) (length vector) (length own) (length checks) (length out) ≡ r
-          same = rw (← e, ne-eqb r 0 h)
+          same : repair-by-refusal (settings n t w) (length vector) (length own) (length checks) (length out) ≡ number
+          same = rw (← e, ne-eqb number 0 h)
 
       own-number :
           repair-refusal (settings n t w) (length vector) (length checks) (length out) ≡ 0 →
@@ -122,20 +130,22 @@ module _ (n t w : ℕ) where
       own-number e = rw e
 
       pub repair-by-own :
-          repair-refusal (settings n t w) (length vector) (length checks) (length out) ≡ 0 → (length own ≡ 2 * t * w → ⊥) →
-          Repair-by-says n t w vector own checks 18 0 out out
+          (r m : ℕ) (k : List ℕ) → repair-refusal (settings n t w) (length vector) (length checks) (length out) ≡ 0 → (length own ≡ 2 * t * w → ⊥) →
+          Untried 18 r m k → Repair-by-says n t w vector own checks r m k out out
       unfolding Repair-by-says
-      repair-by-own e h = subst (λ (j : ℕ). Repair-by-as j (settings n t w) vector own checks 18 0 out out) (sym (own-number e ∙ refuses)) (by-as 18 (λ z. omega arith))
+      repair-by-own r m k e h u =
+          subst (λ (i : ℕ). Repair-by-as i (settings n t w) vector own checks r m k out out) (sym (own-number e ∙ refuses)) (by-as 18 r m k (λ z. omega arith) u)
         where
           refuses : _≡_ {A = ℕ} (cond (eqb (length own) (2 * t * w)) 0 18) 18
           refuses = rw (ne-eqb (length own) (2 * t * w) h)
 
       pub repair-by-done :
-          (r m : ℕ) (now : List ℕ) → repair-refusal (settings n t w) (length vector) (length checks) (length out) ≡ 0 → length own ≡ 2 * t * w →
-          Done-by (settings n t w) (values-in (settings n t w) n vector) (values-in (settings n t w) (2 * t) own) (values-in (settings n t w) (2 * t) checks) r m out now →
-          Repair-by-says n t w vector own checks r m out now
+          (r m : ℕ) (k now : List ℕ) → repair-refusal (settings n t w) (length vector) (length checks) (length out) ≡ 0 → length own ≡ 2 * t * w →
+          Done-by (settings n t w) (values-in (settings n t w) n vector) (values-in (settings n t w) (2 * t) own) (values-in (settings n t w) (2 * t) checks) r m out now
+          × Tried-by (settings n t w) (values-in (settings n t w) (2 * t) own) (values-in (settings n t w) (2 * t) checks) k →
+          Repair-by-says n t w vector own checks r m k out now
       unfolding Repair-by-says Repair-by-as settings check-count
-      repair-by-done r m now e h d = subst (λ (j : ℕ). Repair-by-as j (settings n t w) vector own checks r m out now) (sym (own-number e ∙ passes)) d
+      repair-by-done r m k now e h d = subst (λ (i : ℕ). Repair-by-as i (settings n t w) vector own checks r m k out now) (sym (own-number e ∙ passes)) d
         where
           passes : _≡_ {A = ℕ} (cond (eqb (length own) (2 * t * w)) 0 18) 0
           passes = rw (eq-eqb (length own) (2 * t * w) h)

@@ -1,7 +1,7 @@
 pub mod Difference
 pub mod ColumnErrors
 pub mod WrongRows
-pub mod AllPlanes
+pub mod FoundPlanes
 pub mod Answer
 pub mod Entry
 pub mod OneAnswer

@@ -5,19 +5,22 @@ use mathlib.Core.List.{List}
 use Prim.Native.Nat.{ℕ}
 use Rattle.code.specs.Settings.{Settings}
 use Rattle.code.specs.Vector.{is-vector, are-checks, has-checks}
-use Rattle.repair.specs.Entry.{Done, Repair-says, Done-by, Repair-by-says}
+use Rattle.code.specs.Repair.{Tried-planes}
+use Rattle.repair.specs.Entry.{Done, Repair-says, Done-by, Tried-by, Repair-by-says}
 
--- where the own checks are the vector's, what `repair_by` does is what `repair` does, in the answer, in the count and in the output
+-- where the own checks are the vector's, what `repair_by` does is what `repair` does, in the answer, in the count, in the places tried and
+-- in the output
 unfoldable pub By-own-checks : Type 0
 By-own-checks =
-    (s : Settings) (vs own cs : List (List ℕ)) (r m : ℕ) (o z : List ℕ) → is-vector s vs ≡ true → has-checks s vs own ≡ true → are-checks s cs ≡ true →
-    Done-by s vs own cs r m o z → Done s vs cs r m o z
+    (s : Settings) (vs own cs : List (List ℕ)) (r m : ℕ) (k o z : List ℕ) → is-vector s vs ≡ true → has-checks s vs own ≡ true → are-checks s cs ≡ true →
+    Done-by s vs own cs r m o z × Tried-by s own cs k → Done s vs cs r m o z × Tried-planes s vs cs k
 
--- each call has one outcome: two that keep its promise are the same, in the answer, in the count and in every lent byte
+-- each call has one outcome: two that keep its promise are the same, in the answer, in the count, in the places tried and in every lent
+-- byte
 pub record One-answer : Type 0 where
   pub repairing :
-      (n t w : ℕ) (vector checks : List ℕ) (a b m k : ℕ) (out x y : List ℕ) → Repair-says n t w vector checks a m out x →
-      Repair-says n t w vector checks b k out y → (a ≡ b) × (m ≡ k) × (x ≡ y)
+      (n t w : ℕ) (vector checks : List ℕ) (a b m j : ℕ) (k l out x y : List ℕ) → Repair-says n t w vector checks a m k out x →
+      Repair-says n t w vector checks b j l out y → (a ≡ b) × (m ≡ j) × (k ≡ l) × (x ≡ y)
   pub repairing-by :
-      (n t w : ℕ) (vector own checks : List ℕ) (a b m k : ℕ) (out x y : List ℕ) → Repair-by-says n t w vector own checks a m out x →
-      Repair-by-says n t w vector own checks b k out y → (a ≡ b) × (m ≡ k) × (x ≡ y)
+      (n t w : ℕ) (vector own checks : List ℕ) (a b m j : ℕ) (k l out x y : List ℕ) → Repair-by-says n t w vector own checks a m k out x →
+      Repair-by-says n t w vector own checks b j l out y → (a ≡ b) × (m ≡ j) × (k ≡ l) × (x ≡ y)

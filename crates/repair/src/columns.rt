@@ -13,6 +13,7 @@ ghost use Rattle.repair.specs.Difference.{plus-values};
 ghost use Rattle.repair.specs.Steps.Columns.{column-errors};
 use code::sizes::MOST_COLUMNS;
 use lanes::ROW_WIDTH;
+use sums::places::first_logarithm;
 use sums::places::progression;
 
 // What divides a column's weight out of its error: powers of the first root, 2 to its logarithm.
@@ -20,8 +21,7 @@ fn inverse_weights(powers: &[u8; 255], logarithms: &[u8; 256]) -> [u8; MOST_COLU
     requires { ⌜ Powers (now powers) × Logarithms (now logarithms) ⌝ }
     ensures { λ r. ⌜ Filled most-columns most-columns (λ k. power 2 (first-exponent + k * first-exponent)) r ⌝ }
 {
-    let roots = code::roots::roots();
-    let first = logarithms[roots[0] as usize] as usize;
+    let first = first_logarithm(logarithms);
     let mut constants = [0u8; MOST_COLUMNS];
     progression(powers, first, first, &mut constants);
     constants

@@ -1,34 +1,44 @@
 // Repair of a vector by check values: in each byte plane the one codeword within t places, or none.
 mod changed;
 mod columns;
-mod planes;
 
 ghost use mathlib.Core.Path.{_≡_};
 ghost use Prim.Native.Nat.{_*_, _≤_};
 ghost use lib.ListN.{length};
 ghost use Rattle.code.specs.Settings.{settings, settings-refusal};
 ghost use Rattle.code.specs.Entry.{values-in};
-ghost use Rattle.repair.specs.Entry.{repair-refusal, Repair-says, Repair-by-says, Done-by};
+ghost use Rattle.repair.specs.Entry.{repair-refusal, none-tried, Repair-says, Repair-by-says, Done-by, Tried-by};
 use code::sizes::CHECKS_ROOM;
+use code::sizes::VALUE_ROOM;
 
 // The answer where some plane has no codeword near.
 const NONE: u32 = 256;
 
-// What repair answers: 0, or 256 for "none", or the refusal 1, 2, 3 or 18; and how many of the n + 2t places it changed, which is 0 for
-// "none" and for a refusal.
+// What repair answers: 0, or 256 for "none", or the refusal 1, 2, 3 or 18; how many of the n + 2t places it changed, which is 0 for
+// "none" and for a refusal; and for each byte plane, how many of its places, columns 1 to n and then checks 1 to 2t, its search tried: up
+// to the last wrong one, 0 where none is wrong, and all n + 2t where the plane has no codeword near. These are all 0 for a refusal, and 0
+// behind the planes that a value has.
 #[repr(C)]
-pub struct Repaired {
+pub struct RepairAnswer {
     pub answer: u32,
     pub changed: u32,
+    pub tried: [u8; VALUE_ROOM],
 }
 
 // The vector repaired by the check values received, in the first n·w bytes of the output.
-pub fn repair(n: u32, t: u32, w: u32, vector: &[u8], checks: &[u8], output: &mut [u8]) -> Repaired
-    ensures { λ r. ⌜ Repair-says n t w (now (vector .entry)) (now (checks .entry)) (r .answer) (r .changed) (now (output .entry)) (now (output .exit)) ⌝ }
+pub fn repair(
+    n: u32,
+    t: u32,
+    w: u32,
+    vector: &[u8],
+    checks: &[u8],
+    output: &mut [u8],
+) -> RepairAnswer
+    ensures { λ r. ⌜ Repair-says n t w (now (vector .entry)) (now (checks .entry)) (r .answer) (r .changed) (r .tried) (now (output .entry)) (now (output .exit)) ⌝ }
 {
     let answer = refused(n, t, w, vector.len(), checks.len(), output.len());
     if answer != 0 {
-        return Repaired { answer, changed: 0 };
+        return untried(answer);
     }
     let mut own = [0u8; CHECKS_ROOM];
     let end = checks.len();
@@ -53,18 +63,15 @@ pub fn repair_by(
     own: &[u8],
     checks: &[u8],
     output: &mut [u8],
-) -> Repaired
-    ensures { λ r. ⌜ Repair-by-says n t w (now (vector .entry)) (now (own .entry)) (now (checks .entry)) (r .answer) (r .changed) (now (output .entry)) (now (output .exit)) ⌝ }
+) -> RepairAnswer
+    ensures { λ r. ⌜ Repair-by-says n t w (now (vector .entry)) (now (own .entry)) (now (checks .entry)) (r .answer) (r .changed) (r .tried) (now (output .entry)) (now (output .exit)) ⌝ }
 {
     let answer = refused(n, t, w, vector.len(), checks.len(), output.len());
     if answer != 0 {
-        return Repaired { answer, changed: 0 };
+        return untried(answer);
     }
     if own.len() != checks.len() {
-        return Repaired {
-            answer: 18,
-            changed: 0,
-        };
+        return untried(18);
     }
     by_difference(
         n as usize,
@@ -75,6 +82,17 @@ pub fn repair_by(
         checks,
         output,
     )
+}
+
+// An answer for which no place is tried, and so none changed.
+fn untried(answer: u32) -> RepairAnswer
+    ensures { λ r. ⌜ (r .answer ≡ answer) × (r .changed ≡ 0) × (r .tried ≡ none-tried) ⌝ }
+{
+    RepairAnswer {
+        answer,
+        changed: 0,
+        tried: [0u8; VALUE_ROOM],
+    }
 }
 
 fn refused(n: u32, t: u32, w: u32, vector: usize, checks: usize, room: usize) -> u32
@@ -107,31 +125,35 @@ fn by_difference(
     own: &[u8],
     checks: &[u8],
     output: &mut [u8],
-) -> Repaired
+) -> RepairAnswer
     requires { ⌜ settings-refusal (settings n t w) ≡ 0 ⌝ }
     requires { ⌜ (length (now vector) ≡ n * w) × (length (now own) ≡ 2 * t * w) × (length (now checks) ≡ 2 * t * w) × (n * w ≤ length (now output)) ⌝ }
-    ensures { λ r. ⌜ Done-by (settings n t w) (values-in (settings n t w) n (now (vector .entry))) (values-in (settings n t w) (2 * t) (now (own .entry))) (values-in (settings n t w) (2 * t) (now (checks .entry))) (r .answer) (r .changed) (now (output .entry)) (now (output .exit)) ⌝ }
+    ensures { λ r. ⌜ Done-by (settings n t w) (values-in (settings n t w) n (now (vector .entry))) (values-in (settings n t w) (2 * t) (now (own .entry))) (values-in (settings n t w) (2 * t) (now (checks .entry))) (r .answer) (r .changed) (now (output .entry)) (now (output .exit)) × Tried-by (settings n t w) (values-in (settings n t w) (2 * t) (now (own .entry))) (values-in (settings n t w) (2 * t) (now (checks .entry))) (r .tried) ⌝ }
 {
     let count = 2 * t;
     let difference = sums::rows::difference(own, checks, count, w);
     if arrays::is_zero(&difference) {
         arrays::copy(output, 0, vector, 0, vector.len());
-        return Repaired {
-            answer: 0,
-            changed: 0,
-        };
+        return untried(0);
     }
     let powers = field::powers();
     let logarithms = field::logarithms();
-    let errors = planes::decode(&powers, &logarithms, &difference, n, t, w);
-    if !errors.found {
-        return Repaired {
+    let errors = search::decode(&powers, &logarithms, &difference, n, t, w);
+    let left = errors.left;
+    let tried = errors.tried;
+    if !arrays::is_zero(&left) {
+        return RepairAnswer {
             answer: NONE,
             changed: 0,
+            tried,
         };
     }
     let weighted = errors.weighted;
     columns::apply_errors(&powers, &logarithms, vector, &weighted, n, w, output);
     let changed = changed::count_changed(&weighted, n + count);
-    Repaired { answer: 0, changed }
+    RepairAnswer {
+        answer: 0,
+        changed,
+        tried,
+    }
 }

@@ -134,7 +134,7 @@ module _ (n t w size count : ℕ) (vector own x row : List ℕ) (fine : settings
   abbrev s : Settings
   s = settings n t w
 
-  module _ (r m : ℕ) (z : List ℕ) (says : Repair-by-says n t w (take size vector) (take count own) x r m (take size row) z) where
+  module _ (r m : ℕ) (k z : List ℕ) (says : Repair-by-says n t w (take size vector) (take count own) x r m k (take size row) z) where
     vector-fine : is-vector s (values-in s n vector) ≡ true
     unfolding settings value-size
     vector-fine = checked-vector s _ _ checked (cut-sized s vector (omega arith))
@@ -143,18 +143,19 @@ module _ (n t w size count : ℕ) (vector own x row : List ℕ) (fine : settings
     unfolding settings check-count value-size
     checks-fine = received-checks s x (omega (arith, x-long)) x-bytes
 
-    taken : Repair-by-as 0 s (take (n * w) vector) (take (2 * t * w) own) x r m (take (n * w) row) z
+    taken : Repair-by-as 0 s (take (n * w) vector) (take (2 * t * w) own) x r m k (take (n * w) row) z
     unfolding Repair-by-says settings check-count value-size
     taken =
-        subst (λ (k : ℕ). Repair-by-as k s (take (n * w) vector) (take (2 * t * w) own) x r m (take (n * w) row) z)
+        subst (λ (number : ℕ). Repair-by-as number s (take (n * w) vector) (take (2 * t * w) own) x r m k (take (n * w) row) z)
         (fine-by s _ _ _ _ fine (length-take-le (n * w) vector (omega arith)) (length-take-le (2 * t * w) own (omega arith)) x-long
         (let l = length-take-le (n * w) row (omega arith) in omega arith)) (rw (many, few) at says)
 
     done : Done s (values-in s n vector) (checks-in s x) r m (take (n * w) row) z
     unfolding Repair-by-as By-own-checks values-in checks-in settings check-count value-size
     done =
-        by-own-checks s _ _ _ r m _ z vector-fine checked checks-fine
-        (subst (λ (vs : List (List ℕ)). Done-by s vs (checks-in s (take (2 * t * w) own)) (checks-in s x) r m (take (n * w) row) z) (cut-front n w vector) taken)
+        by-own-checks s _ _ _ r m k _ z vector-fine checked checks-fine
+        (subst (λ (vs : List (List ℕ)). Done-by s vs (checks-in s (take (2 * t * w) own)) (checks-in s x) r m (take (n * w) row) z) (cut-front n w vector) (taken .0), taken .1)
+        .0
 
     pub repaired-row :
         (m < told-missing)

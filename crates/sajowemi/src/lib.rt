@@ -8,7 +8,7 @@ use level::answer::Level;
 use record::Column;
 use record::Holdings;
 use record::Outcome;
-use repair::Repaired;
+use repair::RepairAnswer;
 
 #[no_mangle]
 pub extern "C" fn sajowemi_open(
@@ -87,8 +87,8 @@ pub extern "C" fn sajowemi_repair(
     vector: &[u8],
     checks: &[u8],
     output: &mut [u8],
-) -> Repaired
-    ensures { λ r. ⌜ Repair-says n t w (now (vector .entry)) (now (checks .entry)) (r .answer) (r .changed) (now (output .entry)) (now (output .exit)) ⌝ }
+) -> RepairAnswer
+    ensures { λ r. ⌜ Repair-says n t w (now (vector .entry)) (now (checks .entry)) (r .answer) (r .changed) (r .tried) (now (output .entry)) (now (output .exit)) ⌝ }
 {
     repair::repair(n, t, w, vector, checks, output)
 }

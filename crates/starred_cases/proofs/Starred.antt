@@ -1,9 +1,10 @@
 -- Every starred case holds: antt works each of them out. Assumes nothing.
 use mathlib.Core.Path.{_≡_, refl, _∙_, ap, ap₂}
 use mathlib.Core.Bool.{true, false, cond}
-use mathlib.Core.List.{List, [], _∷_}
+use mathlib.Core.List.{List, [], _∷_, _++_}
+use mathlib.Core.Logic.{inl, inr}
 use mathlib.Core.Option.{Option, some}
-use Prim.Native.Nat.{ℕ, _≤_}
+use Prim.Native.Nat.{ℕ, _+_, _≤_}
 use native.Mathlib.Omega.{arith}
 use lib.Dec.{ltb, leb, eqb}
 use lib.IntN.{ℤ}
@@ -15,6 +16,7 @@ use Rattle.code.specs.Settings.{settings, settings-refusal, check-count, value-
 use Rattle.code.specs.Polynomial.{root, eval, added, scaled, times-factor, generator}
 use Rattle.code.specs.Plane.{byte-list}
 use Rattle.code.specs.Vector.{plane, each-long, is-vector, are-checks, same, differ-values, cut}
+use Rattle.code.specs.Repair.{last-difference, Tried}
 use Rattle.code.specs.Entry.{values-in}
 use Rattle.code.specs.Promise.{Repairs}
 use Rattle.code.proofs.Codewords.Quick.{quick-summed, quick-zero-from, quick-word, quick-planes-from, quick-checks, checks-quick}
@@ -62,21 +64,32 @@ checks-case :
 unfolding Holds
 checks-case n t vs cs e = checks-quick (settings n t 1) (single vs) (single cs) ∙ e
 
+-- bytes as values of one byte have themselves for their plane
+plane-single : (bs : List ℕ) → plane 0 (single bs) ≡ bs
+unfolding plane single
+plane-single [] = refl
+plane-single (b ∷ bs) = ap (_∷_ b) (plane-single bs)
+
 -- checks that are those of the repaired vector
 repaired-case :
-    (n t : ℕ) (vs cs us : List ℕ) (m : ℕ) → settings-refusal (settings n t 1) ≡ 0 → is-vector (settings n t 1) (single vs) ≡ true →
+    (n t : ℕ) (vs cs us : List ℕ) (m k : ℕ) → settings-refusal (settings n t 1) ≡ 0 → is-vector (settings n t 1) (single vs) ≡ true →
     is-vector (settings n t 1) (single us) ≡ true → quick-checks (settings n t 1) (single us) (single cs) ≡ true →
-    differ-values (single vs) (single us) ≡ m → m ≤ settings n t 1 .t → Holds (repaired-is n t vs cs us m)
-unfolding Holds Repairs
-repaired-case n t vs cs us m r v u e d l =
+    differ-values (single vs) (single us) ≡ m → m ≤ settings n t 1 .t → k ≡ last-difference (vs ++ cs) (us ++ cs) → Holds (repaired-is n t vs cs us m k)
+unfolding Holds Repairs Tried value-size settings
+repaired-case n t vs cs us m k r v u e d l last =
     let repair = repairs (settings n t 1) (single vs) (single us) (single cs) r v u (checks-quick (settings n t 1) (single us) (single cs) ∙ e) (rw d l) in
-    (single cs, repair .0, repair .1 ∙ d)
+    let near = rw (plane-single vs, plane-single cs, plane-single us) at (repair .0 .planes 0 (omega arith)) in
+    ((single cs, repair .0, repair .1 ∙ d), inl (us, cs, near, last))
 
 -- checks that repair nothing
 none-case :
-    (n t : ℕ) (vs cs : List ℕ) → settings-refusal (settings n t 1) ≡ 0 → quick-none (settings n t 1) (single vs) (single cs) ≡ true → Holds (none-near n t vs cs)
-unfolding Holds
-none-case n t vs cs r e = none-quick (settings n t 1) (single vs) (single cs) r e
+    (n t : ℕ) (vs cs : List ℕ) (k : ℕ) → settings-refusal (settings n t 1) ≡ 0 → quick-none (settings n t 1) (single vs) (single cs) ≡ true →
+    k ≡ n + check-count (settings n t 1) → Holds (none-near n t vs cs k)
+unfolding Holds Tried value-size settings
+none-case n t vs cs k r e all =
+    let none = none-quick (settings n t 1) (single vs) (single cs) r e in
+    let one : none .at-plane ≡ 0 = omega (arith, none .inside) in
+    (none, inr (λ us ds near. none .none-near us ds (rw (one, plane-single vs, plane-single cs) near), all))
 
 -- the rows that columns 2, 3 and 4 give column 1 of the exchange of 004
 rows-in-two : ℕ → Option Vector
@@ -124,7 +137,7 @@ level-case n t held hs l heights few level = (
 )
 
 pub starred-cases : Starred-cases
-unfolding Starred-cases starred All-hold single times times-from doubled plus xor-from doublings settings check-count value-size quick-checks quick-planes-from
+unfolding Starred-cases starred All-hold single times times-from doubled plus xor-from doublings settings check-count value-size last-difference quick-checks quick-planes-from
     quick-word quick-zero-from quick-summed quick-none none-from plane-none right-at quick-sum all-from massey start changed longer as-long
     against raised quotient value place-exponent eval added scaled power inverse are-checks each-long byte-list plane settings-refusal is-vector same differ-values
     held-bytes held-blank held-as bits signed height confident placed ascending blank-columns dropped without-ends left halved middle level-of
@@ -139,7 +152,7 @@ starred-cases = (
         checks-case _ _ _ _ refl,
         (
           checks-case _ _ _ _ refl,
-          (repaired-case _ _ _ _ _ _ refl refl refl refl refl (omega arith), (repaired-case _ _ _ _ _ _ refl refl refl refl refl (omega arith), (none-case _ _ _ _ refl refl, (told-case _ _ _ _ _ _ rows-in-two refl refl refl refl refl refl, (opens-case, (refused-case, (alone-case, (level-case _ _ _ _ _ refl refl refl, (level-case _ _ _ _ _ refl refl refl, tt))))))))),
+          (repaired-case _ _ _ _ _ _ _ refl refl refl refl refl (omega arith) refl, (repaired-case _ _ _ _ _ _ _ refl refl refl refl refl (omega arith) refl, (none-case _ _ _ _ _ refl refl refl, (told-case _ _ _ _ _ _ rows-in-two refl refl refl refl refl refl, (opens-case, (refused-case, (alone-case, (level-case _ _ _ _ _ refl refl refl, (level-case _ _ _ _ _ refl refl refl, tt))))))))),
         ),
       ),
     ),

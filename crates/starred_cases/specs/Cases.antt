@@ -10,7 +10,7 @@ use Rattle.field.specs.Field.{times}
 use Rattle.code.specs.Settings.{settings}
 use Rattle.code.specs.Polynomial.{generator}
 use Rattle.code.specs.Vector.{has-checks}
-use Rattle.code.specs.Repair.{Repaired, changed-places, No-repair}
+use Rattle.code.specs.Repair.{Repaired, changed-places, No-repair, Tried}
 use Rattle.grading.specs.Held.{Held, held-as}
 use Rattle.record.specs.Record.{Rec, who-as, found-as, no-frames, opened}
 use Rattle.record.specs.Refusal.{open-refusal, ask-refusal}
@@ -36,8 +36,8 @@ pub data Case : Type 0 where
   product : (a b result : ℕ) → Case
   generator-is : (roots : ℕ) → (coefficients : List ℕ) → Case
   checks-are : (n t : ℕ) → (vector checks : List ℕ) → Case
-  repaired-is : (n t : ℕ) → (vector checks repaired : List ℕ) → (changed : ℕ) → Case
-  none-near : (n t : ℕ) → (vector checks : List ℕ) → Case
+  repaired-is : (n t : ℕ) → (vector checks repaired : List ℕ) → (changed tried : ℕ) → Case
+  none-near : (n t : ℕ) → (vector checks : List ℕ) → (tried : ℕ) → Case
   told-in-two : (n t number : ℕ) → (vector : List ℕ) → (frames : List (Option (List ℕ))) → (told : List ℕ) → Case
   opening : (n t number : ℕ) → (own : List ℕ) → (answer : ℕ) → Case
   alone-ends : (own : List ℕ) → (confidence : ℕ) → Case
@@ -68,9 +68,10 @@ unfoldable pub Holds : Case → Type 0
 Holds (product a b c) = times a b ≡ c
 Holds (generator-is m g) = generator m ≡ g
 Holds (checks-are n t vs cs) = has-checks (settings n t 1) (single vs) (single cs) ≡ true
-Holds (repaired-is n t vs cs us m) =
-    (ds : List (List ℕ)) × Repaired (settings n t 1) (single vs) (single cs) (single us) ds × (changed-places (single vs) (single cs) (single us) ds ≡ m)
-Holds (none-near n t vs cs) = No-repair (settings n t 1) (single vs) (single cs)
+Holds (repaired-is n t vs cs us m k) =
+    ((ds : List (List ℕ)) × Repaired (settings n t 1) (single vs) (single cs) (single us) ds × (changed-places (single vs) (single cs) (single us) ds ≡ m))
+    × Tried (settings n t 1) vs cs k
+Holds (none-near n t vs cs k) = No-repair (settings n t 1) (single vs) (single cs) × Tried (settings n t 1) vs cs k
 Holds (told-in-two n t k vs fs ms) =
     ((q : Rec) × Closed 2 (in-round-two n t k vs fs) q) × ((q : Rec) → Closed 2 (in-round-two n t k vs fs) q → q .found .told-two ≡ ms)
 Holds (opening n t k v a) = open-refusal (settings n t (length v)) k v ≡ a
@@ -86,9 +87,9 @@ starred =
     ∷ checks-are 4 1 (241 ∷ 86 ∷ 35 ∷ 35 ∷ []) (39 ∷ 78 ∷ [])
     ∷ checks-are 4 1 (241 ∷ 86 ∷ 35 ∷ 40 ∷ []) (82 ∷ 30 ∷ [])
     ∷ checks-are 4 1 (241 ∷ 86 ∷ 35 ∷ 0 ∷ []) (8 ∷ 182 ∷ [])
-    ∷ repaired-is 4 1 (241 ∷ 86 ∷ 35 ∷ 35 ∷ []) (0 ∷ 136 ∷ []) (241 ∷ 86 ∷ 129 ∷ 35 ∷ []) 1
-    ∷ repaired-is 4 1 (241 ∷ 86 ∷ 35 ∷ 35 ∷ []) (22 ∷ 61 ∷ []) (241 ∷ 49 ∷ 35 ∷ 35 ∷ []) 1
-    ∷ none-near 4 1 (241 ∷ 86 ∷ 35 ∷ 35 ∷ []) (22 ∷ 77 ∷ [])
+    ∷ repaired-is 4 1 (241 ∷ 86 ∷ 35 ∷ 35 ∷ []) (0 ∷ 136 ∷ []) (241 ∷ 86 ∷ 129 ∷ 35 ∷ []) 1 3
+    ∷ repaired-is 4 1 (241 ∷ 86 ∷ 35 ∷ 35 ∷ []) (22 ∷ 61 ∷ []) (241 ∷ 49 ∷ 35 ∷ 35 ∷ []) 1 2
+    ∷ none-near 4 1 (241 ∷ 86 ∷ 35 ∷ 35 ∷ []) (22 ∷ 77 ∷ []) 6
     -- column 1 of the exchange of 004, with what columns 2, 3 and 4 send to it
     ∷ told-in-two 4 1 1 (241 ∷ 86 ∷ 35 ∷ 35 ∷ []) (none ∷ some (39 ∷ 78 ∷ []) ∷ some (82 ∷ 30 ∷ []) ∷ some (22 ∷ 61 ∷ []) ∷ []) (0 ∷ 0 ∷ 1 ∷ 1 ∷ [])
     ∷ opening 4 1 1 (7 ∷ []) 0

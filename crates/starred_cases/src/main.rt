@@ -41,6 +41,9 @@ fn repaired_by(checks: [u8; 2]) {
     }
     io::write_all(STDOUT_FILENO, b"changed ");
     print_answer(repaired.changed);
+    let tried = repaired.tried;
+    io::write_all(STDOUT_FILENO, b"tried ");
+    print_answer(wide(tried[0]));
 }
 
 fn print_told(told: [u8; 32]) {

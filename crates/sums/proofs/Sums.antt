@@ -1,5 +1,4 @@
--- Sums over rows of all planes: of checks and of errors.
+-- Sums over rows of all planes.
 pub mod Terms
 pub mod CheckRows
 pub mod CheckSums
-pub mod ErrorSums

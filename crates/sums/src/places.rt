@@ -1,35 +1,46 @@
-// The places of a plane as powers of 2, and polynomials at all of them.
+// The places of a plane as powers of 2, and the polynomials of all planes at one of them.
 //
-// A place's powers are 2 to a progression of exponents, so that all planes' locators are evaluated at all places by rows.
+// A place's powers are 2 to a progression of exponents, and all planes' polynomials are evaluated in one row.
 ghost use mathlib.Core.Path.{_≡_};
 ghost use Prim.Native.Nat.{_+_, _*_, _≤_, _<_};
 ghost use lib.ListN.{length};
-ghost use Rattle.arrays.specs.Array.{Filled};
+ghost use Rattle.arrays.specs.Array.{Filled, Written};
 ghost use Rattle.field.specs.Field.{power};
-ghost use Rattle.field.specs.Table.{Powers};
-ghost use Rattle.code.specs.Size.{most-columns, most-checks, most-places, plane-room};
-ghost use Rattle.lanes.specs.Lanes.{row-width};
+ghost use Rattle.field.specs.Table.{Powers, Logarithms};
+ghost use Rattle.code.specs.Size.{most-columns, most-checks, most-bad};
+ghost use Rattle.lanes.specs.Lanes.{row-width, lane};
+ghost use Rattle.code.specs.Polynomial.{eval, first-exponent};
 ghost use Rattle.locator.specs.Errors.{place-exponent};
-ghost use Rattle.sums.specs.Places.{Place-powers, Evaluated};
-use code::sizes::MOST_PLACES;
-use code::sizes::PLACE_ROWS;
+ghost use Rattle.sums.specs.Places.{Coefficient-tables};
+use code::sizes::MOST_BAD;
 use lanes::ROW_WIDTH;
+use lanes::TABLE_ROOM;
+
+// Room for the tables of every row of a locator's coefficients.
+pub const LOCATOR_TABLES: usize = TABLE_ROOM * (MOST_BAD + 1);
+
+// A step on from an exponent of 2, below 255 again: 2^255 is 1.
+fn step_on(exponent: usize, step: usize) -> usize
+    requires { ⌜ (exponent < 255) × (step < 255) ⌝ }
+    ensures { λ r. ⌜ (r < 255) × (power 2 r ≡ power 2 (exponent + step)) ⌝ }
+{
+    let back = 255 - step;
+    if exponent < back {
+        return exponent + step;
+    }
+    exponent - back
+}
 
 // The powers of 2 with the exponents start, start + step, start + 2·step and so on.
 pub fn progression(powers: &[u8; 255], start: usize, step: usize, constants: &mut [u8])
     requires { ⌜ Powers (now powers) × (start < 255) × (step < 255) ⌝ }
     ensures { λ _. ⌜ Filled (length (now (constants .entry))) (length (now (constants .entry))) (λ i. power 2 (start + i * step)) (now (constants .exit)) ⌝ }
 {
-    let back = 255 - step;
     let mut exponent = start;
     let mut i = 0;
     while i < constants.len() {
         constants[i] = powers[exponent];
-        if exponent < back {
-            exponent += step;
-        } else {
-            exponent -= back;
-        }
+        exponent = step_on(exponent, step);
         i += 1;
     }
 }
@@ -45,44 +56,52 @@ pub fn place_exponent(n: usize, count: usize, j: usize) -> usize
     n + count - 1 - j
 }
 
-// Each place's m-th power.
-pub fn place_powers(powers: &[u8; 255], m: usize, n: usize, count: usize) -> [u8; MOST_PLACES]
-    requires { ⌜ Powers (now powers) × (m ≤ plane-room) × (n + count ≤ most-places) ⌝ }
-    ensures { λ r. ⌜ Place-powers m n count r ⌝ }
+// The logarithm of the first root, by the table that the generator is built of.
+pub fn first_logarithm(logarithms: &[u8; 256]) -> usize
+    requires { ⌜ Logarithms (now logarithms) ⌝ }
+    ensures { λ r. ⌜ r ≡ first-exponent ⌝ }
 {
-    let step = (255 - m) % 255;
-    let places = n + count;
-    let mut constants = [0u8; MOST_PLACES];
-    progression(powers, 254 * m % 255, step, &mut constants[..n]);
-    progression(
-        powers,
-        (254 + count) * m % 255,
-        step,
-        &mut constants[n..places],
-    );
-    constants
+    let roots = code::roots::roots();
+    logarithms[roots[0] as usize] as usize
 }
 
-// Each plane's polynomial at each place: to a place's row each row of coefficients is added, times the place's power.
-pub fn evaluate_all(
-    powers: &[u8; 255],
-    coefficients: &[u8],
-    many: usize,
-    n: usize,
-    count: usize,
-) -> [u8; PLACE_ROWS]
-    requires { ⌜ Powers (now powers) × (row-width * many ≤ length (now coefficients)) × (many ≤ plane-room) × (n + count ≤ most-places) ⌝ }
-    ensures { λ r. ⌜ Evaluated many n count (now (coefficients .entry)) r ⌝ }
+// The tables of each row of coefficients but the first, which goes in as it is: the power 0 of every place is 1.
+pub fn coefficient_tables(coefficients: &[u8], many: usize) -> [u8; LOCATOR_TABLES]
+    requires { ⌜ (1 ≤ many) × (many ≤ most-bad + 1) × (row-width * many ≤ length (now coefficients)) ⌝ }
+    ensures { λ r. ⌜ Coefficient-tables many (now (coefficients .entry)) r ⌝ }
 {
-    let places = n + count;
-    let mut rows = [0u8; PLACE_ROWS];
-    let mut m = 0;
+    let mut tables = [0u8; LOCATOR_TABLES];
+    let mut m = 1;
     while m < many {
-        let constants = place_powers(powers, m, n, count);
         let at = ROW_WIDTH * m;
         let end = at + ROW_WIDTH;
-        lanes::add_products(&coefficients[at..end], &constants[..places], &mut rows);
+        lanes::put_tables(&coefficients[at..end], &mut tables, TABLE_ROOM * m);
         m += 1;
     }
-    rows
+    tables
+}
+
+// Each plane's polynomial at the place with this exponent, written into the row of bytes from `at` on: the first row of
+// coefficients, and to it each other, times the place's power.
+pub fn put_values(
+    powers: &[u8; 255],
+    tables: &[u8],
+    coefficients: &[u8],
+    many: usize,
+    exponent: usize,
+    rows: &mut [u8],
+    at: usize,
+)
+    requires { ⌜ Powers (now powers) × Coefficient-tables many (now coefficients) (now tables) ⌝ }
+    requires { ⌜ (exponent < 255) × (1 ≤ many) × (many ≤ most-bad + 1) × (row-width * many ≤ length (now coefficients)) × (at + row-width ≤ length (now rows)) ⌝ }
+    ensures { λ _. ⌜ Written at row-width (λ p. eval (lane p many (now (coefficients .entry))) (power 2 exponent)) (now (rows .entry)) (now (rows .exit)) ⌝ }
+{
+    arrays::copy(rows, at, coefficients, 0, ROW_WIDTH);
+    let mut raised = exponent;
+    let mut m = 1;
+    while m < many {
+        lanes::add_from_tables(tables, TABLE_ROOM * m, powers[raised], rows, at);
+        raised = step_on(raised, exponent);
+        m += 1;
+    }
 }

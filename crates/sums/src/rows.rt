@@ -1,19 +1,17 @@
-// Sums over rows of byte planes: the difference of check values, its syndromes, and what weighted errors leave of them.
+// Sums over rows of byte planes: the difference of check values and its syndromes.
 //
 // A row's byte of plane p stands at p, and each row is worked on in all planes at once.
 
 ghost use mathlib.Core.Path.{_≡_};
 ghost use Prim.Native.Nat.{_+_, _*_, _≤_};
 ghost use lib.ListN.{length, getD};
-ghost use Rattle.arrays.specs.Array.{Filled, Written};
-ghost use Rattle.field.specs.Field.{plus, power};
+ghost use Rattle.arrays.specs.Array.{Written};
+ghost use Rattle.field.specs.Field.{plus};
 ghost use Rattle.field.specs.Table.{Powers, Logarithms};
-ghost use Rattle.code.specs.Size.{most-columns, most-checks, check-rows};
+ghost use Rattle.code.specs.Size.{most-checks, check-rows};
 ghost use Rattle.lanes.specs.Lanes.{row-width, Products-added};
-ghost use Rattle.code.specs.Polynomial.{root};
-ghost use Rattle.code.specs.Settings.{Settings, check-count};
-ghost use Rattle.sums.specs.Rows.{Values-added, Root-logarithms, Check-sums, Error-sums, Explained-as};
-use crate::places::place_exponent;
+ghost use Rattle.sums.specs.Rows.{Values-added, Check-sums};
+use crate::places::first_logarithm;
 use crate::places::progression;
 use code::sizes::CHECK_ROWS;
 use code::sizes::MOST_CHECKS;
@@ -47,40 +45,6 @@ pub fn difference(own: &[u8], checks: &[u8], count: usize, size: usize) -> [u8; 
     rows
 }
 
-// The logarithms of the twenty roots, which come from the table that the generator is built of.
-fn root_logarithms(logarithms: &[u8; 256]) -> [u8; MOST_CHECKS]
-    requires { ⌜ Logarithms (now logarithms) ⌝ }
-    ensures { λ r. ⌜ Root-logarithms r ⌝ }
-{
-    let roots = code::roots::roots();
-    let mut of_roots = [0u8; MOST_CHECKS];
-    let mut i = 0;
-    while i < MOST_CHECKS {
-        of_roots[i] = logarithms[roots[i] as usize];
-        i += 1;
-    }
-    of_roots
-}
-
-// One power of each root, by its logarithm: 2^255 is 1.
-fn root_powers(
-    powers: &[u8; 255],
-    logarithms: &[u8; MOST_CHECKS],
-    exponent: usize,
-) -> [u8; MOST_CHECKS]
-    requires { ⌜ Powers (now powers) × Root-logarithms (now logarithms) × (exponent ≤ most-checks) ⌝ }
-    ensures { λ r. ⌜ Filled most-checks most-checks (λ i. power (root i) exponent) r ⌝ }
-{
-    let mut constants = [0u8; MOST_CHECKS];
-    let mut i = 0;
-    while i < MOST_CHECKS {
-        let logarithm = logarithms[i] as usize;
-        constants[i] = powers[logarithm * exponent % 255];
-        i += 1;
-    }
-    constants
-}
-
 // To each row of the sums the row times its constant is added, in all planes. A row of zeros is passed over.
 fn add_row(row: &[u8], constants: &[u8], sums: &mut [u8])
     requires { ⌜ (length (now row) ≡ row-width) × (row-width * length (now constants) ≤ length (now sums)) ⌝ }
@@ -102,56 +66,22 @@ pub fn syndromes(
     requires { ⌜ Powers (now powers) × Logarithms (now logarithms) × (count ≤ most-checks) × (row-width * count ≤ length (now difference)) ⌝ }
     ensures { λ r. ⌜ Check-sums count count (now (difference .entry)) r ⌝ }
 {
-    let of_roots = root_logarithms(logarithms);
+    let first = first_logarithm(logarithms);
     let mut sums = [0u8; CHECK_ROWS];
     let mut c = 0;
     while c < count {
-        let constants = root_powers(powers, &of_roots, count - 1 - c);
+        let exponent = count - 1 - c;
+        let mut constants = [0u8; MOST_CHECKS];
+        progression(
+            powers,
+            first * exponent % 255,
+            exponent,
+            &mut constants[..count],
+        );
         let at = ROW_WIDTH * c;
         let end = at + ROW_WIDTH;
         add_row(&difference[at..end], &constants[..count], &mut sums);
         c += 1;
     }
     sums
-}
-
-// The power sums of weighted errors in rows, one for each place.
-fn error_sums(powers: &[u8; 255], weighted: &[u8], n: usize, count: usize) -> [u8; CHECK_ROWS]
-    requires { ⌜ Powers (now powers) × (n ≤ most-columns) × (count ≤ most-checks) × (row-width * (n + count) ≤ length (now weighted)) ⌝ }
-    ensures { λ r. ⌜ Error-sums (n + count) n count (now (weighted .entry)) r ⌝ }
-{
-    let mut sums = [0u8; CHECK_ROWS];
-    let mut j = 0;
-    while j < n + count {
-        let mut constants = [0u8; MOST_CHECKS];
-        progression(
-            powers,
-            0,
-            place_exponent(n, count, j),
-            &mut constants[..count],
-        );
-        let at = ROW_WIDTH * j;
-        let end = at + ROW_WIDTH;
-        add_row(&weighted[at..end], &constants[..count], &mut sums);
-        j += 1;
-    }
-    sums
-}
-
-// Whether the weighted errors explain the sums: their power sums added to them leave nothing.
-pub fn leaves_nothing(
-    powers: &[u8; 255],
-    sums: &[u8],
-    weighted: &[u8],
-    n: usize,
-    count: usize,
-) -> bool
-    requires { ⌜ Powers (now powers) × (n ≤ most-columns) × (count ≤ most-checks) × (row-width * count ≤ length (now sums)) × (row-width * (n + count) ≤ length (now weighted)) ⌝ }
-    ensures { λ r. ⌜ ((s : Settings) → s .n ≡ n → check-count s ≡ count → Explained-as r s (now (sums .entry)) (now (weighted .entry))) ⌝ }
-{
-    let explained = error_sums(powers, weighted, n, count);
-    let mut left = [0u8; CHECK_ROWS];
-    let end = ROW_WIDTH * count;
-    sum_bytes(sums, &explained, 0, end, &mut left, 0);
-    arrays::is_zero(&left[..end])
 }

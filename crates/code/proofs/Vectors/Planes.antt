@@ -1,13 +1,14 @@
 -- Vectors of values and their byte planes. What the tests of a vector and of its check values say is given as records, both
 -- ways. Values are equal where all their planes are, so check values are unique because each plane's are; and a plane of two
 -- vectors differs in no more places than the vectors in values, so check values repair what differs in at most t. A repair is unique,
--- because each plane's codeword is. Assumes nothing.
+-- because each plane's codeword is, and so are the places tried for it. Assumes nothing.
 use mathlib.Core.Path.{_≡_, refl, sym, _∙_, ap, ap₂}
 use mathlib.Core.Bool.{Bool, true, _&&_}
 use mathlib.Core.List.{List, [], _∷_}
 use mathlib.Mathlib.Data.Bool.Basic.{and-intro}
 use Prim.Native.Nat.{ℕ, zero, suc, _<_, _≤_}
 use native.Mathlib.Omega.{arith}
+use native.Mathlib.Decide.{decLt}
 use lib.Dec.{eqb}
 use lib.ListN.{length, getD, drop}
 use lib.Seq.{ext-getD}
@@ -16,11 +17,12 @@ use Rattle.arrays.proofs.Bool.{and-split, count-le, count-le-one}
 use Rattle.code.specs.Settings.{Settings, settings-refusal, check-count, value-size}
 use Rattle.code.specs.Plane.{is-codeword, byte-list, differ}
 use Rattle.code.specs.Vector.{plane, each-long, is-vector, are-checks, planes-from, has-checks, same, differ-values}
-use Rattle.code.specs.Repair.{Repaired, changed-places, No-repair}
+use Rattle.code.specs.Repair.{Repaired, changed-places, No-repair, Tried-planes}
 use Rattle.code.specs.Promise.{One-near, One-repair, Repairs}
 use Rattle.arrays.proofs.Bytes.{Bytes, byte-at}
 use Rattle.code.proofs.Tests.{bytes-of, bytes-back, all-from, all-below-at, all-below-back}
 use Rattle.code.proofs.Codewords.Near.{differ-self, one-near, plane-unique}
+use Rattle.code.proofs.Codewords.Tried.{tried-one}
 
 -- values of so many bytes
 abbrev pub Values : (size : ℕ) → List (List ℕ) → Type 0
@@ -198,3 +200,12 @@ one-repair s vs cs us ds xs ys fine e f a b = (
 
 pub repaired-or-none : (s : Settings) (vs cs us ds : List (List ℕ)) → Repaired s vs cs us ds → No-repair s vs cs → ⊥
 repaired-or-none s vs cs us ds a b = b .none-near (plane (b .at-plane) us) (plane (b .at-plane) ds) (a .planes (b .at-plane) (b .inside))
+
+pub tried-planes-one :
+    (s : Settings) (vs cs : List (List ℕ)) (k l : List ℕ) → settings-refusal s ≡ 0 → length vs ≡ s .n → length cs ≡ check-count s → Tried-planes s vs cs k →
+    Tried-planes s vs cs l → k ≡ l
+tried-planes-one s vs cs k l fine e f a b = ext-getD 0 k l (a .long ∙ sym (b .long)) (λ p h. at p (decLt p (value-size s)))
+  where
+    at : (p : ℕ) → Dec (p < value-size s) → getD k p 0 ≡ getD l p 0
+    at p (yes h) = tried-one s (plane p vs) (plane p cs) _ _ fine (plane-length p vs ∙ e) (plane-length p cs ∙ f) (a .each p h) (b .each p h)
+    at p (no h) = a .others p (omega arith) ∙ sym (b .others p (omega arith))

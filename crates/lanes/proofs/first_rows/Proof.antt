@@ -1,6 +1,5 @@
 -- `first_rows` meets its contract: zeros, and the bytes of the value after them. Assumes nothing.
 use mathlib.Core.Path.{refl}
-use Prim.Native.Nat.{_-_}
 use Rattle.lanes.proofs.Multiples.{multiples-first}
 use borrow.Author.Needs.{needs}
 use Rattle.arrays.proofs.Written.{from-start}

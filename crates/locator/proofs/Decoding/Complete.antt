@@ -1,28 +1,33 @@
 -- Where a codeword is near, the decoder finds it. The places in which the codeword and the word differ have the syndromes for
--- power sums, and at most t of them are wrong. So the locator has at most t roots to tell, its values are the weighted errors at
--- all places, and these explain the syndromes. Assumes nothing.
+-- power sums, and at most t of them are wrong. So the locator has at most t roots to tell, all of them among the places, its
+-- values are the weighted errors at all places, and these explain the syndromes. Assumes nothing.
 use mathlib.Core.Path.{_≡_, sym, _∙_, ap, ap₂}
 use mathlib.Core.List.{List}
-use Prim.Native.Nat.{ℕ, _<_, _≤_}
+use Prim.Native.Nat.{ℕ, _+_, _<_, _≤_}
 use native.Mathlib.Omega.{arith}
 use lib.ListN.{length, getD}
-use Rattle.field.specs.Field.{plus}
+use Rattle.field.specs.Field.{plus, power}
 use Rattle.field.proofs.Xor.{plus-self, plus-zero}
+use Rattle.field.proofs.Logarithm.{no-zero-divisors}
 use Rattle.code.specs.Settings.{Settings, settings-refusal, check-count}
 use Rattle.code.specs.Polynomial.{eval}
 use Rattle.code.specs.Plane.{syndrome}
 use Rattle.code.specs.Repair.{Near}
 use Rattle.code.proofs.Codewords.Place.{Place, Byte-places, Different, All-zero, nonzero, weighed}
 use Rattle.code.proofs.Codewords.PowerSum.{power-sum}
+use Rattle.code.proofs.Polynomials.Arithmetic.{eval-lt}
 use Rattle.code.proofs.ValidSettings.{sizes}
 use Rattle.code.proofs.Codewords.Word.{Shape, Word, word-of, word-errors, word-errors-bytes, word-errors-count, word-errors-different, word-errors-sum}
 use Rattle.code.proofs.Codewords.Linear.{syndrome-lt}
 use Rattle.locator.specs.Locator.{massey, value}
-use Rattle.locator.specs.Errors.{Located, Explained}
+use Rattle.locator.specs.Errors.{place-exponent, Located, Explained}
+use Rattle.locator.specs.Search.{at-place, roots-below}
 use Rattle.locator.proofs.Locator.Shape.{massey-shape}
 use Rattle.locator.proofs.Locator.Size.{size-le-nonzero, roots-all}
-use Rattle.locator.proofs.Locator.Roots.{in-at, value-at-place}
+use Rattle.locator.proofs.Locator.Roots.{in-at, bytes-in, zero-in, value-at-place}
 use Rattle.locator.proofs.Errors.Places.{placed, placed-sum, placed-nonzero, word-errors-length, word-errors-power, placed-word-errors}
+use Rattle.locator.proofs.Errors.Marks.{nonzero-le-roots}
+use Rattle.locator.proofs.Decoding.Counted.{few-roots-below}
 
 module _ (s : Settings) (bs cs us ds : List ℕ) (S : ℕ → ℕ) (r : settings-refusal s ≡ 0) (v : Shape s bs cs) (same : (i : ℕ) → i < check-count s → S i ≡ syndrome s i bs cs) (near : Near s bs cs us ds) where
   word : Word s us ds
@@ -59,6 +64,38 @@ module _ (s : Settings) (bs cs us ds : List ℕ) (S : ℕ → ℕ) (r : settings
   unfolding check-count
   roots = roots-all places bytes different S (check-count s) sums (check-count s) (omega arith) (omega (arith, few))
 
+  -- with as many roots among the places as its size, for each place with an error is one
+  abbrev none : Place
+  none = record { x = 0; y = 0 }
+
+  places-length : length places ≡ s .n + check-count s
+  unfolding places
+  places-length = word-errors-length s bs cs us ds (sizes s r) v (word .shape)
+
+  places-power : (j : ℕ) → j < s .n + check-count s → getD places j none .x ≡ power 2 (place-exponent (s .n) (check-count s) j)
+  unfolding places
+  places-power = word-errors-power s bs cs us ds (sizes s r) v (word .shape) none
+
+  wrong-root : (j : ℕ) → j < length places → (getD places j none .y ≡ 0 → ⊥) → at-place s (massey S (check-count s) .locator) j ≡ 0
+  unfolding at-place
+  wrong-root j h wrong =
+      let in-places = in-at places j none h in
+      ap (eval (massey S (check-count s) .locator)) (sym (places-power j (rw places-length at h)))
+      ∙ no-zero-divisors (getD places j none .y) _ (bytes-in _ places bytes in-places .1) (eval-lt _ _)
+      (zero-in (eval (massey S (check-count s) .locator)) _ places roots in-places) wrong
+
+  pub near-counted : roots-below (at-place s (massey S (check-count s) .locator)) (s .n + check-count s) ≡ massey S (check-count s) .size
+  near-counted =
+      let v = at-place s (massey S (check-count s) .locator) in
+      let all : 0 + length places ≡ s .n + check-count s = omega (arith, places-length) in
+      omega (
+        arith,
+        size-low,
+        few-roots-below s S r,
+        nonzero-le-roots v places 0 none (λ i h wrong. ap v (let e : 0 + i ≡ i = omega arith in e) ∙ wrong-root i h wrong),
+        ap (roots-below v) all,
+      )
+
   value-is : (p : Place) (j : ℕ) → j < length places → value S (massey S (check-count s) .locator) (getD places j p .x) ≡ getD places j p .y
   value-is p j h =
       value-at-place S (check-count s) places bytes different sums (massey S (check-count s) .locator) roots (getD places j p) (in-at places j p h)
@@ -71,12 +108,8 @@ module _ (s : Settings) (bs cs us ds : List ℕ) (S : ℕ → ℕ) (r : settings
     all-right =
         placed-word-errors s bs cs us ds (sizes s r) v (word .shape) none ys (located .many)
         (λ j h.
-        located .each j h
-        ∙ ap (value S (massey S (check-count s) .locator)) (sym (word-errors-power s bs cs us ds (sizes s r) v (word .shape) none j h))
-        ∙ value-is none j (rw (word-errors-length s bs cs us ds (sizes s r) v (word .shape)) h))
-      where
-        none : Place
-        none = record { x = 0; y = 0 }
+        located .each j h ∙ ap (value S (massey S (check-count s) .locator)) (sym (places-power j h))
+        ∙ value-is none j (rw places-length h))
 
     pub near-explained : Explained s S ys
     near-explained =

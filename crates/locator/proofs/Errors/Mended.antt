@@ -1,12 +1,13 @@
--- Bytes with their errors added. They differ from the bytes only where a weighted error is not zero; and as places, the bytes
--- and these differ by the weighted errors again, since a weight is divided out and multiplied in. Assumes nothing.
+-- Bytes with their errors added. They differ from the bytes only where a weighted error is not zero, and last where the last is; and as
+-- places, the bytes and these differ by the weighted errors again, since a weight is divided out and multiplied in. Assumes nothing.
 use mathlib.Core.Path.{_≡_, refl, sym, _∙_, ap, ap₂}
-use mathlib.Core.Bool.{Bool, true, false}
-use mathlib.Core.List.{List, [], _∷_}
+use mathlib.Core.Bool.{Bool, true, false, cond}
+use mathlib.Core.List.{List, [], _∷_, _++_}
 use Prim.Native.Nat.{ℕ, zero, suc, _+_, _*_, _-_, _<_, _≤_}
 use native.Mathlib.Omega.{arith}
 use lib.Dec.{eqb}
-use lib.ListN.{length, getD}
+use lib.ListN.{length, getD, take, drop, length-append, take-append-drop}
+use lib.Seq.{length-take-le}
 use borrow.Author.Tests.{eqb-true, eqb-false, eq-eqb, ne-eqb}
 use Rattle.arrays.proofs.Bool.{count-le}
 use Rattle.field.specs.Field.{plus, times, power, inverse}
@@ -17,10 +18,12 @@ use Rattle.field.proofs.Division.{divide-times}
 use Rattle.code.specs.Polynomial.{first-exponent}
 use Rattle.code.specs.Settings.{Settings, check-count}
 use Rattle.code.specs.Plane.{differ}
-use Rattle.arrays.proofs.Bytes.{Bytes}
+use Rattle.code.specs.Repair.{last-difference}
+use Rattle.arrays.proofs.Bytes.{Bytes, bytes-append}
 use Rattle.code.proofs.Codewords.Place.{Place}
 use Rattle.code.proofs.Codewords.Errors.{errors}
 use Rattle.locator.specs.Errors.{error-byte, mended, wrong-places, place-exponent}
+use Rattle.locator.specs.Search.{last-wrong}
 use Rattle.locator.proofs.Errors.Places.{placed}
 
 pub mended-length : (s : Settings) (j : ℕ) (bs ys : List ℕ) → length (mended s j bs ys) ≡ length bs
@@ -80,6 +83,36 @@ error-there s j b y h l = go (eqb y 0) refl
         (λ f.
         eqb-false y 0 e
         (sym (weighted-again s j b y l) ∙ ap (λ (z : ℕ). times (plus b z) weight) (sym f) ∙ ap (λ (z : ℕ). times z weight) (plus-self b) ∙ zero-times weight))
+
+-- the last byte that is changed is that of the last weighted error
+last-there :
+    (s : Settings) (j : ℕ) (bs ys : List ℕ) → length bs ≡ length ys → Bytes bs → Bytes ys → last-difference bs (mended s j bs ys) ≡ last-wrong ys
+unfolding mended last-difference last-wrong
+last-there s j [] [] e b c = refl
+last-there s j [] (y ∷ ys) e b c = absurd (omega arith)
+last-there s j (b ∷ bs) [] e c d = absurd (omega arith)
+last-there s j (b ∷ bs) (y ∷ ys) e c d =
+    ap₂ (λ (q : Bool) (k : ℕ). cond (eqb k 0) (cond q 0 1) (suc k)) (error-there s j b y (c .0) (d .0))
+    (last-there s (suc j) bs ys (omega arith) (c .1) (d .1))
+
+mended-append :
+    (s : Settings) (j k : ℕ) (bs cs xs ys : List ℕ) → length bs ≡ length xs → k ≡ j + length bs →
+    mended s j (bs ++ cs) (xs ++ ys) ≡ mended s j bs xs ++ mended s k cs ys
+unfolding mended
+mended-append s j k [] cs [] ys e h = ap (λ (i : ℕ). mended s i cs ys) (let q : j ≡ k = omega arith in q)
+mended-append s j k [] cs (x ∷ xs) ys e h = absurd (omega arith)
+mended-append s j k (b ∷ bs) cs [] ys e h = absurd (omega arith)
+mended-append s j k (b ∷ bs) cs (x ∷ xs) ys e h =
+    ap (λ (us : List ℕ). plus b (error-byte s j x) ∷ us) (mended-append s (suc j) k bs cs xs ys (omega arith) (omega arith))
+
+pub mended-last :
+    (s : Settings) (n : ℕ) (bs cs ys : List ℕ) → length bs ≡ n → length ys ≡ n + length cs → Bytes bs → Bytes cs → Bytes ys →
+    last-difference (bs ++ cs) (mended s 0 bs (take n ys) ++ mended s n cs (drop n ys)) ≡ last-wrong ys
+mended-last s n bs cs ys e f b c d =
+    ap (last-difference (bs ++ cs))
+    (sym (mended-append s 0 n bs cs (take n ys) (drop n ys) (e ∙ sym (length-take-le n ys (omega arith))) (omega arith))
+    ∙ ap (mended s 0 (bs ++ cs)) (take-append-drop n ys))
+    ∙ last-there s 0 (bs ++ cs) ys (omega (arith, length-append bs cs)) (bytes-append bs cs b c) d
 
 pub mended-errors :
     (s : Settings) (m j : ℕ) (bs ys : List ℕ) → length bs ≡ length ys → length bs ≤ m → Bytes ys →

@@ -60,12 +60,12 @@ placed-append s j k [] ys e = ap (λ (i : ℕ). placed s i ys) (let q : j ≡ k 
 placed-append s j k (x ∷ xs) ys e =
     let p : Place = record { x = power 2 (place-exponent (s .n) (check-count s) j); y = x } in ap (_∷_ p) (placed-append s (suc j) k xs ys (omega arith))
 
-placed-length : (s : Settings) (j : ℕ) (ys : List ℕ) → length (placed s j ys) ≡ length ys
+pub placed-length : (s : Settings) (j : ℕ) (ys : List ℕ) → length (placed s j ys) ≡ length ys
 unfolding placed
 placed-length s j [] = refl
 placed-length s j (y ∷ ys) = ap suc (placed-length s (suc j) ys)
 
-placed-at :
+pub placed-at :
     (s : Settings) (i : ℕ) (ys : List ℕ) (j k : ℕ) (p : Place) → k ≡ i + j → j < length ys →
     getD (placed s i ys) j p ≡ record { x = power 2 (place-exponent (s .n) (check-count s) k); y = getD ys j 0 }
 unfolding placed
@@ -73,6 +73,19 @@ placed-at s i [] j k p e h = absurd (omega arith)
 placed-at s i (y ∷ ys) zero k p e h =
     ap {B = Place} (λ (m : ℕ). record { x = power 2 (place-exponent (s .n) (check-count s) m); y = y }) (let q : i ≡ k = omega arith in q)
 placed-at s i (y ∷ ys) (suc j) k p e h = placed-at s (suc i) ys j k p (omega arith) (omega arith)
+
+-- a list of places that has the powers of their numbers is that of its weights
+pub placed-equal :
+    (s : Settings) (qs : List Place) (p : Place) (ys : List ℕ) → length ys ≡ length qs →
+    ((j : ℕ) → j < length qs → getD qs j p .x ≡ power 2 (place-exponent (s .n) (check-count s) j)) →
+    ((j : ℕ) → j < length qs → getD ys j 0 ≡ getD qs j p .y) → placed s 0 ys ≡ qs
+placed-equal s qs p ys l powers weights =
+    ext-getD p (placed s 0 ys) qs (placed-length s 0 ys ∙ l) (λ j h. at j (rw (placed-length s 0 ys ∙ l) at h))
+  where
+    at : (j : ℕ) → j < length qs → getD (placed s 0 ys) j p ≡ getD qs j p
+    at j h =
+        placed-at s 0 ys j j p (omega arith) (omega arith)
+        ∙ ap₂ {C = Place} (λ (a b : ℕ). record { x = a; y = b }) (sym (powers j h)) (weights j h)
 
 -- the places of two words have the powers of their numbers
 errors-length : (m : ℕ) (us vs : List ℕ) → length us ≤ m → length us ≡ length vs → length (errors m us vs) ≡ length us
@@ -124,10 +137,5 @@ module _ (s : Settings) (bs cs us ds : List ℕ) (z : Sizes s) (v : Shape s bs c
       (p : Place) (ys : List ℕ) → length ys ≡ s .n + check-count s →
       ((j : ℕ) → j < s .n + check-count s → getD ys j 0 ≡ getD (word-errors s bs cs us ds) j p .y) → placed s 0 ys ≡ word-errors s bs cs us ds
   placed-word-errors p ys l e =
-      ext-getD p (placed s 0 ys) (word-errors s bs cs us ds) (placed-length s 0 ys ∙ l ∙ sym word-errors-length)
-      (λ j h. at j (rw (placed-length s 0 ys ∙ l) at h))
-    where
-      at : (j : ℕ) → j < s .n + check-count s → getD (placed s 0 ys) j p ≡ getD (word-errors s bs cs us ds) j p
-      at j h =
-          placed-at s 0 ys j j p (omega arith) (omega arith)
-          ∙ ap₂ {C = Place} (λ (a b : ℕ). record { x = a; y = b }) (sym (word-errors-power p j h)) (e j h)
+      placed-equal s (word-errors s bs cs us ds) p ys (l ∙ sym word-errors-length) (λ j h. word-errors-power p j (rw word-errors-length at h))
+      (λ j h. e j (rw word-errors-length at h))

@@ -35,7 +35,7 @@ in-at [] j p h = absurd (omega arith)
 in-at (q ∷ qs) zero p h = first qs
 in-at (q ∷ qs) (suc j) p h = later q qs (in-at qs j p (omega arith))
 
-bytes-in : (p : Place) (qs : List Place) → Byte-places qs → In p qs → (p .x < 256) × (p .y < 256)
+pub bytes-in : (p : Place) (qs : List Place) → Byte-places qs → In p qs → (p .x < 256) × (p .y < 256)
 bytes-in p qs g (first ps) = (g .0, g .1)
 bytes-in p qs g (later q ps i) = bytes-in p ps (g .2) i
 
@@ -43,7 +43,7 @@ apart-in : (c : ℕ) (p : Place) (qs : List Place) → Apart c qs → In p qs �
 apart-in c p qs a (first ps) = a .0
 apart-in c p qs a (later q ps i) = apart-in c p ps (a .1) i
 
-zero-in : (f : ℕ → ℕ) (p : Place) (qs : List Place) → All-zero (weighed f qs) → In p qs → times (p .y) (f (p .x)) ≡ 0
+pub zero-in : (f : ℕ → ℕ) (p : Place) (qs : List Place) → All-zero (weighed f qs) → In p qs → times (p .y) (f (p .x)) ≡ 0
 unfolding weighed
 zero-in f p qs z (first ps) = z .0
 zero-in f p qs z (later q ps i) = zero-in f p ps (z .1) i
@@ -59,7 +59,7 @@ root-left c x y ps h l k r n z =
     split = quotient-eval x c ps l h ∙ ap (plus _) r ∙ plus-zero _ (times-lt _ _)
 
 module _ (c : ℕ) (ps : List ℕ) (h : c < 256) (r : eval ps c ≡ 0) where
-  roots-left : (qs : List Place) → Byte-places qs → Apart c qs → All-zero (weighed (eval ps) qs) → All-zero (weighed (eval (quotient c ps)) qs)
+  pub roots-left : (qs : List Place) → Byte-places qs → Apart c qs → All-zero (weighed (eval ps) qs) → All-zero (weighed (eval (quotient c ps)) qs)
   unfolding weighed
   roots-left [] g a z = z
   roots-left (q ∷ qs) g a z = (root-left c (q .x) (q .y) ps h (g .0) (g .1) r (a .0) (z .0), roots-left qs (g .2) (a .1) (z .1))

@@ -61,7 +61,7 @@ monic-quotient zero c (p ∷ q ∷ []) h m = monic-zero (q ∷ []) c h (m .1)
 monic-quotient zero c (p ∷ q ∷ r ∷ ps) h m = absurd (m .1)
 monic-quotient (suc n) c (p ∷ q ∷ ps) h m = (plus-lt _ _, monic-quotient n c (q ∷ ps) h (m .1))
 
-regroup : (a b c p : ℕ) → plus (plus (plus a b) c) (plus p b) ≡ plus p (plus c a)
+pub regroup : (a b c p : ℕ) → plus (plus (plus a b) c) (plus p b) ≡ plus p (plus c a)
 regroup a b c p =
     ap (λ (z : ℕ). plus z (plus p b)) (plus-comm (plus a b) c ∙ sym (plus-assoc c a b)) ∙ plus-swap (plus c a) b p b ∙ ap (plus _) (plus-self b)
     ∙ plus-zero _ (plus-lt _ _) ∙ plus-comm (plus c a) p

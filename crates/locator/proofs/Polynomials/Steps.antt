@@ -32,7 +32,7 @@ unfolding eval quotient
 eval-quotient p x [] h = sym (ap (plus 0) (times-zero x h) ∙ plus-self 0)
 eval-quotient p x (q ∷ ps) h = refl
 
-against-quotient :
+pub against-quotient :
     (p x j : ℕ) (ps : List ℕ) (S : ℕ → ℕ) → against (quotient x (p ∷ ps)) S j ≡ plus (times (eval ps x) (S j)) (against (quotient x ps) S (suc j))
 unfolding eval quotient against
 against-quotient p x j [] S = sym (ap (λ (z : ℕ). plus z 0) (zero-times (S j)) ∙ plus-self 0)

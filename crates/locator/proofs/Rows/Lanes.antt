@@ -1,21 +1,13 @@
--- A plane of the rows, one more byte at a time: a byte written in a row changes that plane alone, and a plane's wrong places are
--- counted row by row. Assumes nothing.
-use mathlib.Core.Path.{_≡_, refl, _∙_, ap, subst}
-use mathlib.Core.Bool.{cond}
-use mathlib.Core.List.{List, [], _∷_}
+-- A plane of the rows, one more byte at a time: a byte written in a row changes that plane alone. Assumes nothing.
+use mathlib.Core.Path.{_≡_, refl, _∙_, subst}
+use mathlib.Core.List.{List}
 use Prim.Native.Nat.{ℕ, _+_, _<_}
 use native.Mathlib.Omega.{arith}
-use native.Mathlib.Numerals.{add-one}
-use lib.Dec.{eqb}
 use lib.ListN.{length, getD, set, length-set}
 use lib.Seq.{getD-set-same, getD-set-other}
 use borrow.Author.Count.{below-more}
-use borrow.Author.Tests.{eq-eqb, ne-eqb}
-use Rattle.lanes.specs.Lanes.{in-row, lane}
-use Rattle.locator.specs.Errors.{wrong-places}
+use Rattle.lanes.specs.Lanes.{in-row}
 use Rattle.locator.specs.Plane.{Lane-written}
-use Rattle.lanes.proofs.Lane.{lane-more}
-use Rattle.locator.proofs.Errors.Totals.{wrong-places-append}
 
 -- one more byte of a plane
 pub lane-written-none : (p : ℕ) (f : ℕ → ℕ) (rows : List ℕ) → Lane-written p 0 f rows rows
@@ -40,20 +32,3 @@ lane-written-more p many v f rows now w h e =
 pub lane-written-to :
     {p many k : ℕ} {f : ℕ → ℕ} {rows now : List ℕ} → many ≡ k → Lane-written p many f rows now → Lane-written p k f rows now
 lane-written-to {p} {many} {k} {f} {rows} {now} e w = subst (λ (n : ℕ). Lane-written p n f rows now) e w
-
--- one more row counted
-wrong-places-more :
-    (p many : ℕ) (bs : List ℕ) →
-    wrong-places (lane p (many + 1) bs) ≡ wrong-places (lane p many bs) + cond (eqb (getD bs (in-row many p) 0) 0) 0 1
-unfolding wrong-places
-wrong-places-more p many bs =
-    ap (λ (k : ℕ). wrong-places (lane p k bs)) (add-one many) ∙ ap wrong-places (lane-more p many bs)
-    ∙ wrong-places-append (lane p many bs) (getD bs (in-row many p) 0 ∷ []) ∙ omega arith
-
-pub one-wrong-more :
-    (p many : ℕ) (bs : List ℕ) → (getD bs (in-row many p) 0 ≡ 0 → ⊥) → wrong-places (lane p (many + 1) bs) ≡ wrong-places (lane p many bs) + 1
-one-wrong-more p many bs h = rw (ne-eqb _ _ h) at (wrong-places-more p many bs)
-
-pub none-wrong-more :
-    (p many : ℕ) (bs : List ℕ) → getD bs (in-row many p) 0 ≡ 0 → wrong-places (lane p (many + 1) bs) ≡ wrong-places (lane p many bs)
-none-wrong-more p many bs h = omega (arith, rw (eq-eqb _ _ h) at (wrong-places-more p many bs))

@@ -1,19 +1,22 @@
 -- From the zero vector to the own one. Moved by the own vector with its check values, the zero bytes with the difference of the
 -- check values become the own vector with the check values received, plane by plane, and back. So what repairs the one repairs
--- the other and changes the same places, and where the one has no repair neither has the other. Assumes nothing.
+-- the other and changes the same places, where the one has no repair neither has the other, and a search tries the same places of both.
+-- Assumes nothing.
 use mathlib.Core.Path.{_≡_, sym, _∙_, ap, ap₂, subst₂}
 use mathlib.Core.Bool.{true}
-use mathlib.Core.List.{List}
+use mathlib.Core.List.{List, _++_}
+use mathlib.Core.Logic.{inl, inr}
 use Prim.Native.Nat.{ℕ, _+_, _<_}
-use lib.ListN.{length, replicate, length-replicate}
+use lib.ListN.{length, getD, replicate, length-replicate}
 use Rattle.code.specs.Settings.{Settings, check-count, value-size}
 use Rattle.code.specs.Polynomial.{added}
 use Rattle.code.specs.Vector.{plane, is-vector, are-checks, has-checks, differ-values}
-use Rattle.code.specs.Repair.{Near, Repaired, changed-places, No-repair}
+use Rattle.code.specs.Repair.{Near, Repaired, changed-places, No-repair, last-difference, Tried, Tried-planes}
 use Rattle.code.proofs.Vectors.Planes.{Values, Vector, vector-of, vector-back, checks-of, checks-back, Checked, checked-of, plane-length, plane-bytes}
+use Rattle.code.proofs.Codewords.Word.{Shape, word-of}
 use Rattle.code.proofs.Codewords.Linear.{near-plus}
 use Rattle.repair.specs.Difference.{plus-values, zeros}
-use Rattle.repair.proofs.Difference.Values.{added-zeros, added-self, added-again, plus-differ, plus-values-again, plus-values-length, plus-values-values, plane-plus, plane-zeros, zero-values, plus-zero-values}
+use Rattle.repair.proofs.Difference.Values.{added-zeros, added-self, added-again, plus-differ, plus-values-again, plus-values-length, plus-values-values, plane-plus, plane-zeros, zero-values, plus-zero-values, last-plus}
 
 -- the own vector vs with its check values, and check values cs received
 module _ (s : Settings) (vs own cs : List (List ℕ)) (e : is-vector s vs ≡ true) (f : has-checks s vs own ≡ true) (g : are-checks s cs ≡ true) where
@@ -52,6 +55,48 @@ module _ (s : Settings) (vs own cs : List (List ℕ)) (e : is-vector s vs ≡ tr
     bytes-back : added (plane p vs) (plane p vs) ≡ plane p (zeros s)
     bytes-back = added-self (plane p vs) ∙ ap (λ (n : ℕ). replicate n 0) own-long ∙ sym (plane-zeros s p)
 
+    zeros-shape : Shape s (plane p (zeros s)) (plane p (plus-values own cs))
+    unfolding zeros
+    zeros-shape =
+        record {
+          many = ap length (plane-zeros s p) ∙ length-replicate (s .n) 0;
+          many-checks = difference-long;
+          bytes = plane-bytes p (value-size s) (zeros s) (zero-values (s .n) (value-size s));
+          check-bytes =
+              plane-bytes p (value-size s) (plus-values own cs) (plus-values-values (value-size s) own cs (checked .values) (received .1));
+        }
+
+    -- a codeword near the one is moved to one near the other
+    module _ (h : p < value-size s) (us ds : List ℕ) where
+      near-own :
+          Near s (plane p (zeros s)) (plane p (plus-values own cs)) us ds → Near s (plane p vs) (plane p cs) (added (plane p vs) us) (added (plane p own) ds)
+      near-own near =
+          subst₂ (λ (x y : List ℕ). Near s x y (added (plane p vs) us) (added (plane p own) ds)) bytes-moved checks-moved
+          (near-plus s (plane p vs) (plane p own) (plane p (zeros s)) (plane p (plus-values own cs)) us ds (checked .planes p h) (zeros-shape .many)
+          difference-long near)
+
+      near-zeros :
+          Near s (plane p vs) (plane p cs) us ds → Near s (plane p (zeros s)) (plane p (plus-values own cs)) (added (plane p vs) us) (added (plane p own) ds)
+      near-zeros near =
+          subst₂ (λ (x y : List ℕ). Near s x y (added (plane p vs) us) (added (plane p own) ds)) bytes-back (sym difference)
+          (near-plus s (plane p vs) (plane p own) (plane p vs) (plane p cs) us ds (checked .planes p h) own-long received-long near)
+
+      -- and the last place that differs is the same
+      last-own :
+          Near s (plane p (zeros s)) (plane p (plus-values own cs)) us ds →
+          last-difference (plane p (zeros s) ++ plane p (plus-values own cs)) (us ++ ds)
+          ≡ last-difference (plane p vs ++ plane p cs) (added (plane p vs) us ++ added (plane p own) ds)
+      last-own near =
+          sym (last-plus s (plane p vs) (plane p own) (plane p (zeros s)) (plane p (plus-values own cs)) us ds (word-of s _ _ (checked .planes p h) .shape) zeros-shape
+          (word-of s us ds (near .codeword) .shape))
+          ∙ ap₂ (λ (x y : List ℕ). last-difference (x ++ y) (added (plane p vs) us ++ added (plane p own) ds)) bytes-moved checks-moved
+
+    tried-plane : p < value-size s → (k : ℕ) → Tried s (plane p (zeros s)) (plane p (plus-values own cs)) k → Tried s (plane p vs) (plane p cs) k
+    unfolding Tried
+    tried-plane h k (inl (us, ds, near, e)) =
+        inl (added (plane p vs) us, added (plane p own) ds, near-own h us ds near, e ∙ last-own h us ds near)
+    tried-plane h k (inr (none, e)) = inr (λ us ds near. none _ _ (near-zeros h us ds near), e)
+
   module _ (es ds : List (List ℕ)) (r : Repaired s (zeros s) (plus-values own cs) es ds) where
     errors : Vector s es
     errors = vector-of s es (r .vector)
@@ -65,9 +110,7 @@ module _ (s : Settings) (vs own cs : List (List ℕ)) (e : is-vector s vs ≡ tr
           plane-plus p (value-size s) vs es (vector .values) (errors .values),
           plane-plus p (value-size s) own ds (checked .values) (errors-checks .1),
         )
-        (subst₂ (λ (x y : List ℕ). Near s x y (added (plane p vs) (plane p es)) (added (plane p own) (plane p ds))) (bytes-moved p) (checks-moved p)
-        (near-plus s (plane p vs) (plane p own) (plane p (zeros s)) (plane p (plus-values own cs)) (plane p es) (plane p ds) (checked .planes p h)
-        (ap length (plane-zeros s p) ∙ length-replicate (s .n) 0) (difference-long p) (r .planes p h)))
+        (near-own p h (plane p es) (plane p ds) (r .planes p h))
 
     pub repaired-plus : Repaired s vs cs (plus-values vs es) (plus-values own ds)
     repaired-plus =
@@ -112,10 +155,8 @@ module _ (s : Settings) (vs own cs : List (List ℕ)) (e : is-vector s vs ≡ tr
       record {
         at-plane = r .at-plane;
         inside = r .inside;
-        none-near = λ us ds near.
-            r .none-near (added (plane (r .at-plane) vs) us) (added (plane (r .at-plane) own) ds)
-            (subst₂ (λ (x y : List ℕ). Near s x y (added (plane (r .at-plane) vs) us) (added (plane (r .at-plane) own) ds)) (bytes-back (r .at-plane))
-            (sym (difference (r .at-plane)))
-            (near-plus s (plane (r .at-plane) vs) (plane (r .at-plane) own) (plane (r .at-plane) vs) (plane (r .at-plane) cs) us ds
-            (checked .planes (r .at-plane) (r .inside)) (own-long (r .at-plane)) (received-long (r .at-plane)) near));
+        none-near = λ us ds near. r .none-near _ _ (near-zeros (r .at-plane) (r .inside) us ds near);
       }
+
+  pub tried-plus : (k : List ℕ) → Tried-planes s (zeros s) (plus-values own cs) k → Tried-planes s vs cs k
+  tried-plus k d = record { long = d .long; each = λ p h. tried-plane p h (getD k p 0) (d .each p h); others = d .others }

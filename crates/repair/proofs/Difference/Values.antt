@@ -1,22 +1,24 @@
 -- Values added byte by byte: with zeros, with themselves, twice with the same bytes; a plane of the sum is the sum of the planes, and
--- values to which the same are added differ where they did before.
+-- values to which the same are added differ where they did before, and so do words.
 -- Assumes nothing.
 use mathlib.Core.Path.{_≡_, refl, sym, _∙_, ap, ap₂}
 use mathlib.Core.Bool.{Bool, true, false, _&&_, cond}
-use mathlib.Core.List.{List, [], _∷_}
-use Prim.Native.Nat.{ℕ, zero, suc, _+_, _*_, _-_, _<_}
+use mathlib.Core.List.{List, [], _∷_, _++_}
+use Prim.Native.Nat.{ℕ, zero, suc, _+_, _*_, _<_}
 use native.Mathlib.Omega.{arith}
 use lib.Dec.{eqb}
-use lib.ListN.{length, replicate, length-replicate}
+use lib.ListN.{length, replicate, length-replicate, length-append}
 use borrow.Author.Tests.{eqb-true, eqb-false, eq-eqb, ne-eqb}
 use Rattle.field.specs.Field.{plus}
 use Rattle.field.proofs.Xor.{plus-self, plus-zero, plus-again}
-use Rattle.code.specs.Settings.{Settings, value-size}
+use Rattle.code.specs.Settings.{Settings, check-count, value-size}
 use Rattle.code.specs.Polynomial.{added}
 use Rattle.code.specs.Vector.{plane, same, differ-values, cut}
-use Rattle.arrays.proofs.Bytes.{Bytes, bytes-zeros}
+use Rattle.code.specs.Repair.{last-difference}
+use Rattle.arrays.proofs.Bytes.{Bytes, bytes-zeros, bytes-append}
 use Rattle.arrays.proofs.Zeros.{zeros-at}
 use Rattle.code.proofs.Polynomials.Arithmetic.{length-added, bytes-added, getD-added}
+use Rattle.code.proofs.Codewords.Word.{Shape}
 use Rattle.code.proofs.Vectors.Planes.{Values}
 use Rattle.repair.specs.Difference.{plus-values, zeros}
 use Rattle.code.proofs.Vectors.Cut.{cut-length, cut-values}
@@ -59,6 +61,37 @@ added-alike (v ∷ vs) [] bs e f x y = absurd (omega arith)
 added-alike (v ∷ vs) (a ∷ us) [] e f x y = absurd (omega arith)
 added-alike (v ∷ vs) (a ∷ us) (b ∷ bs) e f x y =
     ap₂ _&&_ (byte-alike v a b (x .0) (y .0)) (added-alike vs us bs (omega arith) (omega arith) (x .1) (y .1))
+
+last-alike :
+    (vs us bs : List ℕ) → length vs ≡ length us → length vs ≡ length bs → Bytes us → Bytes bs → last-difference (added vs us) (added vs bs) ≡ last-difference us bs
+unfolding added last-difference
+last-alike [] [] [] e f x y = refl
+last-alike [] [] (b ∷ bs) e f x y = absurd (omega arith)
+last-alike [] (a ∷ us) bs e f x y = absurd (omega arith)
+last-alike (v ∷ vs) [] bs e f x y = absurd (omega arith)
+last-alike (v ∷ vs) (a ∷ us) [] e f x y = absurd (omega arith)
+last-alike (v ∷ vs) (a ∷ us) (b ∷ bs) e f x y =
+    ap₂ (λ (q : Bool) (k : ℕ). cond (eqb k 0) (cond q 0 1) (suc k)) (byte-alike v a b (x .0) (y .0))
+    (last-alike vs us bs (omega arith) (omega arith) (x .1) (y .1))
+
+added-append : (vs us es ds : List ℕ) → length vs ≡ length us → added (vs ++ es) (us ++ ds) ≡ added vs us ++ added es ds
+unfolding added
+added-append [] [] es ds e = refl
+added-append [] (u ∷ us) es ds e = absurd (omega arith)
+added-append (v ∷ vs) [] es ds e = absurd (omega arith)
+added-append (v ∷ vs) (u ∷ us) es ds e = ap (λ (xs : List ℕ). plus v u ∷ xs) (added-append vs us es ds (omega arith))
+
+-- words, bytes and then checks, to which the same is added: their last difference stays
+pub last-plus :
+    (s : Settings) (vs es bs cs us ds : List ℕ) → Shape s vs es → Shape s bs cs → Shape s us ds →
+    last-difference (added vs bs ++ added es cs) (added vs us ++ added es ds) ≡ last-difference (bs ++ cs) (us ++ ds)
+last-plus s vs es bs cs us ds v b u =
+    ap₂ last-difference (sym (added-append vs bs es cs (v .many ∙ sym (b .many)))) (sym (added-append vs us es ds (v .many ∙ sym (u .many))))
+    ∙ last-alike (vs ++ es) (bs ++ cs) (us ++ ds) (omega (arith, long, length-append bs cs, b .many, b .many-checks))
+    (omega (arith, long, length-append us ds, u .many, u .many-checks)) (bytes-append bs cs (b .bytes) (b .check-bytes)) (bytes-append us ds (u .bytes) (u .check-bytes))
+  where
+    long : length (vs ++ es) ≡ s .n + check-count s
+    long = omega (arith, length-append vs es, v .many, v .many-checks)
 
 pub plus-differ :
     (w : ℕ) (vs us bs : List (List ℕ)) → length vs ≡ length us → length vs ≡ length bs → Values w vs → Values w us → Values w bs →

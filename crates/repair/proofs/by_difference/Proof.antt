@@ -1,4 +1,4 @@
--- `by_difference` meets its contract: no difference, a plane that does not decode, or errors that are applied and counted. Assumes nothing.
+-- `by_difference` meets its contract: no difference, a plane in which roots are left, or errors that are applied and counted. Assumes nothing.
 use mathlib.Core.Path.{_≡_, refl, sym, _∙_}
 use Prim.Native.Nat.{_+_, _*_, _≤_}
 use native.Mathlib.Omega.{arith}
@@ -13,7 +13,7 @@ use Rattle.code.specs.Entry.{values-in}
 use Rattle.arrays.proofs.Bytes.{Bytes, bytes-every}
 use Rattle.code.proofs.ValidSettings.{sizes, value-in-row}
 use Rattle.repair.specs.Entry.{none-found}
-use Rattle.repair.proofs.Answer.{some-bad, decoded-long, answer-none, answer-found, answer-same}
+use Rattle.repair.proofs.Answer.{some-bad, answer-none, answer-found, answer-same}
 use borrow.Author.Needs.{needs}
 use Rattle.repair.proofs.by_difference.Statement.{statement}
 use Rattle.repair.proofs.by_difference.Tie as tie
@@ -62,16 +62,17 @@ copy-requires c κs = let d = c .before .before .before .before in let l = start
 returns : tie.Need-returns
 unfolding values-in settings value-size
 returns c =
-    let copied-to = c .before .before in
+    let copied-to = c .before .before .before in
     let zero = copied-to .before .before .before in
     let d = zero .before .before in
     let s = start d in
     let a = s .args in
     let rows = d .difference in
-    answer-same (a .n) (a .t) (a .w) (a .vector .now) (a .own .now) (a .checks .now) (rows .result) (s .pre .0) (own-bytes d) (check-bytes d)
-    (s .pre .1 .1) (s .pre .1 .2) (rows .ensures) (a .output .now) _ (bounds s .2)
+    rw (c .untried .ensures .0, c .untried .ensures .1, c .untried .ensures .2)
+    (answer-same (a .n) (a .t) (a .w) (a .vector .now) (a .own .now) (a .checks .now) (rows .result) (s .pre .0) (own-bytes d) (check-bytes d)
+    (s .pre .1 .1) (s .pre .1 .2) (rows .ensures) (a .output .now) _
     (zero-at (rows .result) (sym (zero .is-zero .ensures) ∙ copied-to .before .before .if1 .taken))
-    (s .pre .1 .0) (vector-bytes d) (copied _ (a .vector .now) (a .output .now) _ refl (omega (arith, s .pre .1)) (copied-to .copy .ensures))
+    (s .pre .1 .0) (vector-bytes d) (copied _ (a .vector .now) (a .output .now) _ refl (omega (arith, s .pre .1)) (copied-to .copy .ensures)))
 
 slice-aggregate-decode : tie.Need-slice-aggregate-decode
 slice-aggregate-decode c = sym (difference-of (c .before .before .before) .difference .ensures .long)
@@ -85,33 +86,37 @@ decode-requires c κs =
     let rows = d .difference in (
       (g .before .powers .ensures, g .logarithms .ensures),
       (
-        (
-          s .pre .0,
-          some-bad (a .t) (a .w) _ _ (rows .result) (sym (g .before .before .before .is-zero .ensures) ∙ g .before .before .if1 .left) (rows .ensures),
-          bounds s .2,
-          rows .ensures .long,
-        ),
-        rows .ensures .spare,
+        s .pre .0,
+        some-bad (a .t) (a .w) _ _ (rows .result) (sym (g .before .before .before .is-zero .ensures) ∙ g .before .before .if1 .left) (rows .ensures),
+        bounds s .2,
+        rows .ensures .long,
       ),
     )
+
+-- what the search found
+abbrev searched : tie.After-is-zero2 → tie.After-decode
+searched c = c .before .before .before .before
+
+slice-aggregate-is-zero-2 : tie.Need-slice-aggregate-is-zero-2
+slice-aggregate-is-zero-2 c = let d = c .before .before .before .decode .ensures in omega (arith, d .left-long, d .tried-long)
 
 returns-2 : tie.Need-returns-2
 unfolding values-in settings value-size none-found
 returns-2 c =
-    let e = c .before .before in
+    let e = searched (c .before) in
     let d = difference-of (tables e) in
     let s = start d in
     let a = s .args in
     let rows = d .difference in
     answer-none (a .n) (a .t) (a .w) (a .vector .now) (a .own .now) (a .checks .now) (rows .result) (s .pre .0) (own-bytes d) (check-bytes d)
-    (s .pre .1 .1) (s .pre .1 .2) (rows .ensures) _ _ (a .output .now) (not-true _ (c .if2 .taken)) (e .decode .ensures)
+    (s .pre .1 .1) (s .pre .1 .2) (rows .ensures) _ _ _ (e .decode .ensures) (a .output .now) (sym (c .before .is-zero2 .ensures) ∙ not-true _ (c .if2 .taken))
 
 -- the errors found, and how many they are
 abbrev found : tie.After-weighted2 → tie.Else2
 found c = c .before .before .before .before
 
-found-long : (c : tie.Else2) → length (c .before .before .decode .result .weighted) ≡ place-rows
-found-long c = decoded-long _ _ _ _ _ (not-false _ (c .if2 .left)) (c .before .before .decode .ensures)
+found-long : (c : tie.Else2) → length (searched (c .before) .decode .result .weighted) ≡ place-rows
+found-long c = searched (c .before) .decode .ensures .long
 
 slice-aggregate-apply-errors : tie.Need-slice-aggregate-apply-errors
 slice-aggregate-apply-errors c = sym (found-long (found c))
@@ -119,7 +124,7 @@ slice-aggregate-apply-errors c = sym (found-long (found c))
 apply-errors-requires : tie.Need-apply-errors-requires
 apply-errors-requires c κs =
     let e = found (c .before) in
-    let g = tables (e .before .before) in
+    let g = tables (searched (e .before)) in
     let s = start (difference-of g) in
     let z = bounds s in
     let long = found-long e in
@@ -133,12 +138,12 @@ slice-aggregate-count-changed : tie.Need-slice-aggregate-count-changed
 slice-aggregate-count-changed c = sym (found-long (found (applied c .before .before)))
 
 add-count-changed : tie.Need-add-count-changed
-add-count-changed c = let z = bounds (start (difference-of (tables (found (applied c .before .before) .before .before)))) in omega arith
+add-count-changed c = let z = bounds (start (difference-of (tables (searched (found (applied c .before .before) .before))))) in omega arith
 
 count-changed-requires : tie.Need-count-changed-requires
 count-changed-requires c κs =
     let e = found (applied c .before .before) in
-    let z = bounds (start (difference-of (tables (e .before .before)))) in
+    let z = bounds (start (difference-of (tables (searched (e .before))))) in
     let long = found-long e in
     (omega arith, omega arith)
 
@@ -147,13 +152,13 @@ unfolding values-in settings value-size
 returns-3 c =
     let done = applied (c .before) in
     let e = found (done .before .before) in
-    let d = difference-of (tables (e .before .before)) in
+    let d = difference-of (tables (searched (e .before))) in
     let s = start d in
     let a = s .args in
     let rows = d .difference in
     answer-found (a .n) (a .t) (a .w) (a .vector .now) (a .own .now) (a .checks .now) (rows .result) (s .pre .0) (own-bytes d) (check-bytes d)
-    (s .pre .1 .1) (s .pre .1 .2) (rows .ensures) _ _ _ (a .output .now) _ (bounds s .2) (not-false _ (e .if2 .left)) (e .before .before .decode .ensures)
-    (c .count-changed .ensures) (done .apply-errors .ensures)
+    (s .pre .1 .1) (s .pre .1 .2) (rows .ensures) _ _ _ (bounds s .2) (sym (e .before .is-zero2 .ensures) ∙ not-false _ (e .if2 .left))
+    (searched (e .before) .decode .ensures) _ (a .output .now) _ (c .count-changed .ensures) (done .apply-errors .ensures)
 
 pub by-difference-spec : {M : Type 1} → statement M
 by-difference-spec =
@@ -164,12 +169,15 @@ by-difference-spec =
     slice-aggregate-is-zero
     (λ c κs. search needs)
     copy-requires
+    (λ c κs. search needs)
     (λ c. search needs)
     returns
     (λ c κs. search needs)
     (λ c κs. search needs)
     slice-aggregate-decode
     decode-requires
+    slice-aggregate-is-zero-2
+    (λ c κs. search needs)
     returns-2
     slice-aggregate-apply-errors
     apply-errors-requires

@@ -32,7 +32,11 @@ unfolding settings
 room n t w e = let z = sizes (settings n t w) e in check-room t w (omega (arith, z .few-columns, z .few-bad)) (z .few-bytes)
 
 returns : tie.Need-returns
-returns c = let a = c .before .before .before .before .before .args in repair-refused (a .n) (a .t) (a .w) (a .vector .now) (a .checks .now) (a .output .now) _ (c .before .refused .ensures) (c .if1 .taken)
+returns c =
+    let refusal = c .before in
+    let a = refusal .before .before .before .before .before .args in
+    repair-refused (a .n) (a .t) (a .w) (a .vector .now) (a .checks .now) (a .output .now) _ _ _ _ (refusal .before .refused .ensures) (refusal .if1 .taken)
+    (c .untried .ensures)
 
 array-share-prefix-own : tie.Need-array-share-prefix-own
 array-share-prefix-own c =
@@ -61,9 +65,9 @@ returns-2 c =
     let a = start e .args in
     let s = settings (a .n) (a .t) (a .w) in
     let own = put .check-values in
-    repair-done (a .n) (a .t) (a .w) (a .vector .now) (a .checks .now) (a .output .now) _ _ _ (sym (e .before .refused .ensures) ∙ e .if1 .left)
+    repair-done (a .n) (a .t) (a .w) (a .vector .now) (a .checks .now) (a .output .now) _ _ _ _ (sym (e .before .refused .ensures) ∙ e .if1 .left)
     (by-own-checks s (values-in s (a .n) (a .vector .now)) (values-in s (2 * a .t) (take (length (a .checks .now)) (own .last .1 .1 .1 .1 .0)))
-    (values-in s (2 * a .t) (a .checks .now)) _ _ _ _
+    (values-in s (2 * a .t) (a .checks .now)) _ _ _ _ _
     (is-vector-in (a .n) (a .t) (a .w) (a .vector .now) (d .vector) (bytes-every (a .vector .now) (λ i. e .before .before .before .before .shared-slice-known .given i .fits)))
     (subst (λ (k : ℕ). has-checks s (values-in s (a .n) (a .vector .now)) (values-in s (2 * a .t) (take k (own .last .1 .1 .1 .1 .0))) ≡ true) (sym (d .checks))
     (own-checks (a .n) (a .t) (a .w) _ (a .vector .now) _ _ (d .allowed) (d .vector) (room (a .n) (a .t) (a .w) (d .allowed)) (own .ensures)))
@@ -74,6 +78,7 @@ pub repair-spec : {M : Type 1} → statement M
 repair-spec =
     tie.close
     (tie.spec
+    (λ c κs. search needs)
     (λ c κs. search needs)
     returns
     (λ c. search needs)

@@ -16,14 +16,18 @@ passed c = sym (c .before .refused .ensures) ∙ c .if1 .left
 
 returns : tie.Need-returns
 returns c =
-    let a = start (c .before) .args in
-    repair-by-refused (a .n) (a .t) (a .w) (a .vector .now) (a .checks .now) (a .output .now) (a .own .now) _ (c .before .refused .ensures) (c .if1 .taken)
+    let refusal = c .before in
+    let a = start (refusal .before) .args in
+    repair-by-refused (a .n) (a .t) (a .w) (a .vector .now) (a .checks .now) (a .output .now) (a .own .now) _ _ _ _ (refusal .before .refused .ensures)
+    (refusal .if1 .taken) (c .untried .ensures)
 
 returns-2 : tie.Need-returns-2
 returns-2 c =
-    let a = start (c .before .before) .args in
-    let e = passed (c .before) in
-    repair-by-own (a .n) (a .t) (a .w) (a .vector .now) (a .checks .now) (a .output .now) (a .own .now) e (λ l. c .if2 .taken (l ∙ sym (accepted (a .n) (a .t) (a .w) _ _ _ e .checks)))
+    let other = c .before in
+    let a = start (other .before .before) .args in
+    let e = passed (other .before) in
+    repair-by-own (a .n) (a .t) (a .w) (a .vector .now) (a .checks .now) (a .output .now) (a .own .now) _ _ _ e
+    (λ l. other .if2 .taken (l ∙ sym (accepted (a .n) (a .t) (a .w) _ _ _ e .checks))) (c .untried2 .ensures)
 
 by-difference-requires : tie.Need-by-difference-requires
 by-difference-requires c κs =
@@ -37,10 +41,18 @@ returns-3 c =
     let own = repaired .before .before in
     let a = start (own .before .before) .args in
     let e = passed (own .before) in
-    repair-by-done (a .n) (a .t) (a .w) (a .vector .now) (a .checks .now) (a .output .now) (a .own .now) _ _ _ e
+    repair-by-done (a .n) (a .t) (a .w) (a .vector .now) (a .checks .now) (a .output .now) (a .own .now) _ _ _ _ e
     (own .if2 .left ∙ accepted (a .n) (a .t) (a .w) _ _ _ e .checks) (repaired .by-difference .ensures)
 
 pub repair-by-spec : {M : Type 1} → statement M
 repair-by-spec =
     tie.close
-    (tie.spec (λ c κs. search needs) returns returns-2 by-difference-requires (λ c. search needs) returns-3)
+    (tie.spec
+    (λ c κs. search needs)
+    (λ c κs. search needs)
+    returns
+    (λ c κs. search needs)
+    returns-2
+    by-difference-requires
+    (λ c. search needs)
+    returns-3)

@@ -70,8 +70,3 @@ pub check-sums-syndrome :
 check-sums-syndrome s n count checks sums e c i p h l =
     c .each i p h l
     ∙ sym (syndrome-zeros s i n (lane p count checks) ∙ ap (λ (k : ℕ). summed (root i) (k - 1) (lane p count checks)) e)
-
-pub check-sums-spare :
-    (count : ℕ) (checks sums : List ℕ) → Check-sums count count checks sums → (i p : ℕ) → i < count → p < row-width → lane p count checks ≡ replicate count 0 →
-    getD sums (in-row i p) 0 ≡ 0
-check-sums-spare count checks sums c i p h l e = c .each i p h l ∙ ap (summed (root i) (count - 1)) e ∙ summed-zeros (root i) (count - 1) count

@@ -20,12 +20,11 @@ module _ (rows : List ℕ) (j : ℕ) where
   pub row-at : (p : ℕ) → p < row-width → getD (take (row-width * j + row-width - row-width * j) (drop (row-width * j) rows)) p 0 ≡ getD rows (in-row j p) 0
   row-at p h = getD-take (row-width * j + row-width - row-width * j) (drop (row-width * j) rows) p 0 (omega arith) ∙ getD-drop (row-width * j) rows p 0
 
--- the constants: the first bytes of an array, read as one slice
-pub filled-prefix : (k size : ℕ) (f : ℕ → ℕ) (bytes : List ℕ) → k ≤ size → Filled size size f bytes → Filled k k f (take k bytes)
-filled-prefix k size f bytes h w =
-    record { long = length-take-le k bytes (omega (arith, w .long)); new = λ p l. getD-take k bytes p 0 l ∙ w .new p (omega arith) }
+-- constants, by another name for each
+pub filled-as : {size many : ℕ} {f g : ℕ → ℕ} {bytes : List ℕ} → ((i : ℕ) → i < many → f i ≡ g i) → Filled size many f bytes → Filled size many g bytes
+filled-as e w = record { long = w .long; new = λ i h. w .new i h ∙ e i h }
 
--- or written as one before
+-- and written as the first bytes of an array, read as one slice
 module _ (k : ℕ) (f : ℕ → ℕ) (old new : List ℕ) (h : k ≤ length old) (w : Filled (length (take k old)) (length (take k old)) f new) where
   pub front-room : k ≤ length (new ++ drop k old)
   front-room = omega (arith, length-front old new k (w .long))

@@ -107,7 +107,7 @@ module _ (c : tie.After-repair-by) where
       rw (frame-of-taken count (a .slot) (z .before .before .if1 .left))
       (repaired-row (a .own .n) (a .own .t) (a .own .w) _ _ (a .own .vector) (a .own .checks) x (replicate 256 0) (k .pre .fine)
       (z .before .vector-size .ensures .0) few (h .vector) (h .checks) x-long x-bytes (k .pre .checked) (omega arith)
-      (zeros-blanks (coded-settings (a .own)) 256 (vector-fits (a .own .n) (a .own .t) (a .own .w) (k .pre .fine))) _ _ _ (rw back at (c .repair-by .ensures)))
+      (zeros-blanks (coded-settings (a .own)) 256 (vector-fits (a .own .n) (a .own .t) (a .own .w) (k .pre .fine))) _ _ _ _ (rw back at (c .repair-by .ensures)))
 
 returns-2 : tie.Need-returns-2
 returns-2 c = told (c .before .before .before) .1 told-none (λ e. absurd (c .if2 .taken e)) (λ e. refl)

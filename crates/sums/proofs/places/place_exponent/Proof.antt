@@ -8,7 +8,7 @@ use Rattle.sums.proofs.places.place_exponent.Tie as tie
 
 returns : tie.Need-returns
 unfolding place-exponent
-returns c = (omega arith, rw (lt-ltb (c .before .args .j) (c .before .args .n) (omega arith)))
+returns c = (omega arith, rw (lt-ltb (c .before .args .j) (c .before .args .n) (omega arith)) (omega arith))
 
 returns-2 : tie.Need-returns-2
 unfolding place-exponent

@@ -1,0 +1,4 @@
+pub mod Seeking
+pub mod Turn
+pub mod Walk
+pub mod Decoding

@@ -1,0 +1,43 @@
+// The search of all planes for their wrong places: what is looked for in each, and the walk through the places in order.
+mod locators;
+mod places;
+
+ghost use mathlib.Core.Path.{_≡_};
+ghost use Prim.Native.Nat.{_*_, _≤_};
+ghost use lib.ListN.{length};
+ghost use Rattle.field.specs.Table.{Powers, Logarithms};
+ghost use Rattle.lanes.specs.Lanes.{row-width};
+ghost use Rattle.code.specs.Size.{check-rows};
+ghost use Rattle.code.specs.Settings.{settings, settings-refusal};
+ghost use Rattle.search.specs.Planes.{Decoded};
+use code::sizes::PLACE_ROWS;
+use code::sizes::VALUE_ROOM;
+
+// What the search found. For each plane: how many of the roots looked for are left, none where a codeword is near, and how many places
+// were tried. And in rows, one for each place, the weighted errors of the planes that have none left.
+pub struct Errors {
+    pub left: [u8; VALUE_ROOM],
+    pub tried: [u8; VALUE_ROOM],
+    pub weighted: [u8; PLACE_ROWS],
+}
+
+// The errors of all planes at their places, columns 1 to n and then checks 1 to 2t, by the difference of check values.
+pub fn decode(
+    powers: &[u8; 255],
+    logarithms: &[u8; 256],
+    difference: &[u8],
+    n: usize,
+    t: usize,
+    planes: usize,
+) -> Errors
+    requires { ⌜ Powers (now powers) × Logarithms (now logarithms) ⌝ }
+    requires { ⌜ (settings-refusal (settings n t planes) ≡ 0) × (1 ≤ t) × (planes ≤ row-width) × (length (now difference) ≡ check-rows) ⌝ }
+    ensures { λ r. ⌜ Decoded planes (settings n t planes) (now (difference .entry)) (r .left) (r .tried) (r .weighted) ⌝ }
+{
+    let count = 2 * t;
+    let sums = sums::rows::syndromes(powers, logarithms, difference, count);
+    let sought = locators::seek_all(powers, logarithms, &sums, count, t, planes);
+    let rows = sought.rows;
+    let roots = sought.roots;
+    places::walk(powers, logarithms, &rows, &sums, roots, n, t, planes)
+}

@@ -1,3 +1,0 @@
--- Powers of all places, and polynomials at all places.
-pub mod Powers
-pub mod Polynomials

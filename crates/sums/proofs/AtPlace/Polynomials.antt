@@ -1,0 +1,97 @@
+-- The polynomials of all planes at one place, in a row: the first row of coefficients is their first terms, and one more row times the
+-- place's next power adds the next term of each. The tables of the rows of coefficients stand one after the other. Assumes nothing.
+use mathlib.Core.Path.{_≡_, refl, sym, _∙_, ap, ap₂, subst}
+use mathlib.Core.List.{List, [], _∷_}
+use Prim.Native.Nat.{ℕ, suc, _+_, _*_, _≤_, _<_}
+use native.Mathlib.Omega.{arith}
+use native.Mathlib.Decide.{decLt}
+use native.Mathlib.Numerals.{add-one}
+use lib.ListN.{length, getD}
+use Rattle.arrays.specs.Array.{Written}
+use Rattle.field.specs.Field.{plus, doubled, times, power}
+use Rattle.field.proofs.Power.{power-lt}
+use Rattle.field.proofs.Logarithm.{times-comm}
+use Rattle.lanes.specs.Lanes.{row-width, table-room, in-row, lane, Tables, Tables-put}
+use Rattle.code.specs.Polynomial.{eval}
+use Rattle.code.proofs.Polynomials.Arithmetic.{eval-append, eval-single}
+use Rattle.sums.specs.Places.{locator-tables, Coefficient-tables}
+use Rattle.lanes.proofs.Lane.{lane-length, lane-more}
+
+-- one more row of coefficients
+eval-lane-more :
+    (p many : ℕ) (bs : List ℕ) (x : ℕ) → ((i : ℕ) → getD bs i 0 < 256) → x < 256 →
+    eval (lane p (suc many) bs) x ≡ plus (eval (lane p many bs) x) (times (getD bs (in-row many p) 0) (power x many))
+eval-lane-more p many bs x byte h =
+    ap (λ (ps : List ℕ). eval ps x) (lane-more p many bs) ∙ eval-append (lane p many bs) (getD bs (in-row many p) 0 ∷ []) x h
+    ∙ ap (plus (eval (lane p many bs) x))
+    (ap₂ (λ (k b : ℕ). times (power x k) b) (lane-length p many bs) (eval-single (getD bs (in-row many p) 0) x (byte _) h)
+    ∙ times-comm (power x many) (getD bs (in-row many p) 0) (power-lt x many) (byte _))
+
+-- a row of values, row of coefficients by row of coefficients, from the row into which the first was copied
+abbrev pub Values-put : (at m exponent : ℕ) → (coefficients rows now : List ℕ) → Type 0
+Values-put at m exponent coefficients rows now = Written at row-width (λ p. eval (lane p m coefficients) (power 2 exponent)) rows now
+
+module _ (at exponent : ℕ) (coefficients rows copied : List ℕ) (byte : (i : ℕ) → getD coefficients i 0 < 256) (first : Written at row-width (λ p. getD coefficients (0 + p) 0) rows copied) where
+  pub values-first : Values-put at 1 exponent coefficients copied copied
+  unfolding lane
+  values-first =
+      record {
+        long = refl;
+        new = λ p h.
+            first .new p h ∙ ap (λ (i : ℕ). getD coefficients i 0) (let e : 0 + p ≡ p = omega arith in e)
+            ∙ sym (eval-single (getD coefficients p 0) (power 2 exponent) (byte p) (power-lt 2 exponent));
+        before = λ i h. refl;
+        after = λ i h. refl;
+      }
+
+  pub values-more :
+      (m raised : ℕ) (middle now : List ℕ) → raised ≡ power (power 2 exponent) m → Values-put at m exponent coefficients copied middle →
+      Written at row-width (λ p. plus (getD middle (at + p) 0) (times (getD coefficients (in-row m p) 0) raised)) middle now →
+      Values-put at (m + 1) exponent coefficients copied now
+  values-more m raised middle now e w v =
+      record {
+        long = v .long ∙ w .long;
+        new = λ p h.
+            v .new p h ∙ ap₂ plus (w .new p h) (ap (times (getD coefficients (in-row m p) 0)) e)
+            ∙ sym
+            (ap (λ (k : ℕ). eval (lane p k coefficients) (power 2 exponent)) (add-one m)
+            ∙ eval-lane-more p m coefficients (power 2 exponent) byte (power-lt 2 exponent));
+        before = λ i h. v .before i h ∙ w .before i h;
+        after = λ i h. v .after i h ∙ w .after i h;
+      }
+
+  pub values-whole : (m many : ℕ) (now : List ℕ) → m ≡ many → Values-put at m exponent coefficients copied now → Values-put at many exponent coefficients rows now
+  values-whole m many now e w =
+      record {
+        long = w .long ∙ first .long;
+        new = λ p h. w .new p h ∙ ap (λ (k : ℕ). eval (lane p k coefficients) (power 2 exponent)) e;
+        before = λ i h. w .before i h ∙ first .before i h;
+        after = λ i h. w .after i h ∙ first .after i h;
+      }
+
+-- tables, one row of coefficients more
+pub tables-first : (coefficients tables : List ℕ) → length tables ≡ locator-tables → Coefficient-tables 1 coefficients tables
+tables-first coefficients tables e = record { long = e; each = λ m h l. absurd (omega arith) }
+
+pub tables-more :
+    (many : ℕ) (f : ℕ → ℕ) (coefficients tables now : List ℕ) → 1 ≤ many → ((p : ℕ) → p < row-width → f p ≡ getD coefficients (in-row many p) 0) →
+    Coefficient-tables many coefficients tables → Tables-put (table-room * many) f tables now → Coefficient-tables (many + 1) coefficients now
+tables-more many f coefficients tables now some same t w =
+    record { long = w .long ∙ t .long; each = λ m h l. each m h l (decLt m many) }
+  where
+    each : (m : ℕ) → 1 ≤ m → m < many + 1 → Dec (m < many) → Tables (table-room * m) (λ p. getD coefficients (in-row m p) 0) now
+    each m h l (yes a) =
+        record {
+          low = λ k p g o. w .before _ (omega arith) ∙ t .each m h a .low k p g o;
+          high = λ k p g o. w .before _ (omega arith) ∙ t .each m h a .high k p g o;
+        }
+    each m h l (no a) =
+        let e : m ≡ many = omega arith in
+        rw e
+        (record {
+          low = λ k p g o. w .put .low k p g o ∙ ap (λ (b : ℕ). times b k) (same p o);
+          high = λ k p g o. w .put .high k p g o ∙ ap (λ (b : ℕ). times (doubled (times b 8)) k) (same p o);
+        })
+
+pub tables-to : {many k : ℕ} {coefficients tables : List ℕ} → many ≡ k → Coefficient-tables many coefficients tables → Coefficient-tables k coefficients tables
+tables-to {many} {k} {coefficients} {tables} e t = subst (λ (i : ℕ). Coefficient-tables i coefficients tables) e t
