@@ -57,7 +57,7 @@ enum sajowemi_told {
 
 /* The longest frame, header included: the buffer that always suffices. */
 #define SAJOWEMI_LONGEST_FRAME 164
-/* The most columns, the most bytes of a value, and room for a value of every column. */
+/* The most columns, the most bytes of a value, each of which is a plane of the code, and room for a value of every column. */
 #define SAJOWEMI_MOST_COLUMNS 32
 #define SAJOWEMI_VALUE_ROOM 8
 #define SAJOWEMI_VECTOR_ROOM 256
@@ -129,10 +129,16 @@ struct sajowemi_level {
 };
 
 /* What repair answered, and how many of the n + 2 t places it changed, columns' values and check values together: a place counts once if
- * any byte of it changed. 0 for a refusal and for SAJOWEMI_NONE. */
+ * any byte of it changed. 0 for a refusal and for SAJOWEMI_NONE.
+ *
+ * Byte plane p, from 0 on, is byte p of every value and check value. Its search for wrong places goes through columns 1 to n, then checks
+ * 1 to 2 t, and ends at the last wrong one: tried[p] is how many places that were, 0 where none is wrong, and all n + 2 t where no codeword
+ * is within t places of the plane, whatever the other planes have; all n + 2 t are tried too where the last check is wrong. Zeros behind w
+ * planes, and for a refusal. */
 struct sajowemi_repaired {
     uint32_t answer;
     uint32_t changed;
+    uint8_t tried[SAJOWEMI_VALUE_ROOM];
 };
 
 /* A column with its settings, number, 1 to n, run and own value of w bytes. Refused 1 to 6, with a record of zeros. */

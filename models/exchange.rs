@@ -188,7 +188,7 @@ impl Model {
             checks,
             &mut repaired,
         ) {
-            (0, changed) => {
+            (0, changed, _) => {
                 let values = repaired.chunks(self.w as usize).map(<[u8]>::to_vec);
                 (values.collect(), Told::Changed(changed))
             }

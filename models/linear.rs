@@ -1,9 +1,9 @@
 //! The peer: repair by linear equations, solved from scratch for each plane (Peterson, Gorenstein and Zierler).
 //!
 //! The power sums S of a plane's wrong places give a matrix of S[i + j]. Its first column that depends on those before it
-//! says how many places are wrong, and how it depends is the polynomial whose roots they are. A search finds the roots and
-//! a second elimination the values. All 2t sums are compared at the end, so that an answer is right; and t wrong places or
-//! fewer are always found.
+//! says how many places are wrong, and how it depends is the polynomial whose roots they are. A search finds the roots, and
+//! stops when it has as many as there are wrong places, and a second elimination the values. All 2t sums are compared at the
+//! end, so that an answer is right; and t wrong places or fewer are always found.
 
 const FIRST_ROOT: usize = 120;
 const MOST: usize = 10;
@@ -123,14 +123,14 @@ fn repair_plane(n: usize, t: usize, word: &mut [u8]) -> Option<u64> {
     let mut places = [0; MOST];
     let mut found = 0;
     for place in 0..n + 2 * t {
+        if found == wrong {
+            break;
+        }
         let x = exponent(n, t, place);
         let value = (0..wrong)
             .rev()
             .fold(1, |value, j| times(value, x) ^ m[j][wrong]);
         if value == 0 {
-            if found == wrong {
-                break;
-            }
             places[found] = place;
             found += 1;
         }
@@ -164,8 +164,9 @@ fn repair_plane(n: usize, t: usize, word: &mut [u8]) -> Option<u64> {
     Some(changed)
 }
 
-/// The call as the library has it: 0 and the vector in front of the output, 256 for none, or a refusal; and how many of the n + 2t
-/// places it changed, in whatever planes.
+/// The call as the library has it: 0 and the vector in front of the output, 256 for none, or a refusal; how many of the n + 2t places it
+/// changed, in whatever planes; and for each plane up to which place something is changed, from 1, or n + 2t where no codeword is near,
+/// also beside another plane that has none.
 pub fn repair(
     n: u32,
     t: u32,
@@ -173,22 +174,24 @@ pub fn repair(
     vector: &[u8],
     checks: &[u8],
     output: &mut [u8],
-) -> (u32, u32) {
+) -> (u32, u32, [u8; 8]) {
+    let mut tried = [0; 8];
     if !(1..=32).contains(&n) {
-        return (1, 0);
+        return (1, 0, tried);
     }
     if (n - 1) / 3 < t {
-        return (2, 0);
+        return (2, 0, tried);
     }
     if !(1..=8).contains(&w) {
-        return (3, 0);
+        return (3, 0, tried);
     }
     let (n, t, w) = (n as usize, t as usize, w as usize);
     if vector.len() != n * w || checks.len() != 2 * t * w || output.len() < n * w {
-        return (18, 0);
+        return (18, 0, tried);
     }
     let mut repaired = [0; 256];
     let mut changed = 0;
+    let mut all_near = true;
     for p in 0..w {
         let mut word = [0; 52];
         for k in 0..n {
@@ -198,13 +201,19 @@ pub fn repair(
             word[n + c] = checks[c * w + p];
         }
         let Some(in_plane) = repair_plane(n, t, &mut word[..n + 2 * t]) else {
-            return (256, 0);
+            all_near = false;
+            tried[p] = (n + 2 * t) as u8;
+            continue;
         };
         changed |= in_plane;
+        tried[p] = (u64::BITS - in_plane.leading_zeros()) as u8;
         for k in 0..n {
             repaired[k * w + p] = word[k];
         }
     }
+    if !all_near {
+        return (256, 0, tried);
+    }
     output[..n * w].copy_from_slice(&repaired[..n * w]);
-    (0, changed.count_ones())
+    (0, changed.count_ones(), tried)
 }

@@ -14,4 +14,5 @@ example() { # NAME: examples/NAME.c and examples/NAME.rs against examples/NAME.t
 rust_crate
 example group
 example level
-echo "examples: a group with one liar, and one that repeats the exchange until it stands level, in C and in Rust, as stored"
+example repair
+echo "examples: a group with one liar, one that repeats the exchange until it stands level, and repair by itself, in C and in Rust, as stored"

@@ -54,9 +54,11 @@ SIZE(sajowemi_level, 24);
 STANDS(sajowemi_level, answer, 0);
 STANDS(sajowemi_level, level, 8);
 STANDS(sajowemi_level, correction, 16);
-SIZE(sajowemi_repaired, 8);
+SIZE(sajowemi_repaired, 16);
+_Static_assert(_Alignof(struct sajowemi_repaired) == 4, "alignment");
 STANDS(sajowemi_repaired, answer, 0);
 STANDS(sajowemi_repaired, changed, 4);
+STANDS(sajowemi_repaired, tried, 8);
 _Static_assert(SAJOWEMI_TOLD_MISSING == 254 && SAJOWEMI_TOLD_NONE == 255, "marks");
 
 static uint32_t number_at(const struct sajowemi_column *column, size_t at) {
@@ -151,15 +153,23 @@ static void levelled(void) {
     assert(level.answer == SAJOWEMI_DONE && level.level == -4 && level.correction == 1);
 }
 
-/* Repair hands back its answer and its count side by side: one place changed, and none near. */
+/* Repair hands back its answer, its count and a number for each plane side by side: four places changed, in six of seven planes; none near
+ * in the one that was right; and a refusal. */
 static void repaired(void) {
-    const uint8_t vector[] = {241, 86, 35, 35}, near[] = {0, 136}, far[] = {22, 77};
-    uint8_t output[4];
-    struct sajowemi_repaired repaired = sajowemi_repair(4, 1, 1, vector, 4, near, 2, output, 4);
+    const uint8_t near[] = {22, 0, 38, 39, 39, 22, 0, 61, 136, 78, 78, 79, 61, 136}, near_tried[] = {2, 3, 5, 0, 6, 2, 3, 0};
+    const uint8_t far[] = {22, 0, 38, 22, 39, 22, 0, 61, 136, 78, 77, 79, 61, 136}, far_tried[] = {2, 3, 5, 6, 6, 2, 3, 0};
+    const uint8_t refused_tried[8] = {0};
+    uint8_t vector[28], output[28];
+    struct sajowemi_repaired repaired;
 
-    assert(repaired.answer == SAJOWEMI_DONE && repaired.changed == 1);
-    repaired = sajowemi_repair(4, 1, 1, vector, 4, far, 2, output, 4);
-    assert(repaired.answer == SAJOWEMI_NONE && repaired.changed == 0);
+    for (size_t k = 0; k < 28; k++)
+        vector[k] = (const uint8_t[]){241, 86, 35, 35}[k / 7];
+    repaired = sajowemi_repair(4, 1, 7, vector, 28, near, 14, output, 28);
+    assert(repaired.answer == SAJOWEMI_DONE && repaired.changed == 4 && memcmp(repaired.tried, near_tried, 8) == 0);
+    repaired = sajowemi_repair(4, 1, 7, vector, 28, far, 14, output, 28);
+    assert(repaired.answer == SAJOWEMI_NONE && repaired.changed == 0 && memcmp(repaired.tried, far_tried, 8) == 0);
+    repaired = sajowemi_repair(4, 1, 7, vector, 28, far, 13, output, 28);
+    assert(repaired.answer == SAJOWEMI_CODE_LENGTH && repaired.changed == 0 && memcmp(repaired.tried, refused_tried, 8) == 0);
 }
 
 int main(void) {

@@ -35,8 +35,9 @@ const _: () = {
     assert!(offset_of!(Holdings, told_two) == 292 && offset_of!(Holdings, told_three) == 324);
     assert!(size_of::<Level>() == 24 && offset_of!(Level, answer) == 0);
     assert!(offset_of!(Level, level) == 8 && offset_of!(Level, correction) == 16);
-    assert!(size_of::<Repaired>() == 8 && align_of::<Repaired>() == 4);
+    assert!(size_of::<Repaired>() == 16 && align_of::<Repaired>() == 4);
     assert!(offset_of!(Repaired, answer) == 0 && offset_of!(Repaired, changed) == 4);
+    assert!(offset_of!(Repaired, tried) == 8);
     assert!(archive::TOLD_MISSING == 254 && archive::TOLD_NONE == 255);
 };
 
@@ -143,12 +144,23 @@ fn levelled() {
     assert_eq!((level.answer, level.level, level.correction), (0, -4, 1));
 }
 
-/// Repair hands back its answer and its count side by side: one place changed, and none near.
+/// Repair hands back its answer, its count and a number for each plane side by side: four places changed, in six of seven planes; none near
+/// in the one that was right; and a refusal.
 fn repaired() {
-    for (checks, answered) in [([0, 136], (0, 1)), ([22, 77], (256, 0))] {
-        let Repaired { answer, changed } =
-            archive::repair(4, 1, 1, &[241, 86, 35, 35], &checks, &mut [0; 4]);
-        assert_eq!((answer, changed), answered);
+    let near = [22, 0, 38, 39, 39, 22, 0, 61, 136, 78, 78, 79, 61, 136];
+    let far = [22, 0, 38, 22, 39, 22, 0, 61, 136, 78, 77, 79, 61, 136];
+    let vector = [[241; 7], [86; 7], [35; 7], [35; 7]].concat();
+    for (checks, answered) in [
+        (&near[..], (0, 4, [2, 3, 5, 0, 6, 2, 3, 0])),
+        (&far[..], (256, 0, [2, 3, 5, 6, 6, 2, 3, 0])),
+        (&far[1..], (18, 0, [0; 8])),
+    ] {
+        let Repaired {
+            answer,
+            changed,
+            tried,
+        } = archive::repair(4, 1, 7, &vector, checks, &mut [0; 28]);
+        assert_eq!((answer, changed, tried), answered);
     }
 }
 

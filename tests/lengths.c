@@ -81,6 +81,14 @@ static void send(struct settings s, struct sajowemi_column column, size_t length
     free(buffer);
 }
 
+/* The bytes are alike, so that every plane has the same places tried: w planes these, those behind them none. */
+static int are_tried(struct settings s, const uint8_t *tried, uint32_t places) {
+    for (uint32_t p = 0; p < SAJOWEMI_VALUE_ROOM; p++)
+        if (tried[p] != (p < s.w ? places : 0))
+            return 0;
+    return 1;
+}
+
 /* The code calls: vector, checks and output each of their length or so many bytes off it. */
 static void code(struct settings s, int vector_off, int checks_off, int output_off) {
     int vector_right = (int)(s.n * s.w), checks_right = (int)(2 * s.t * s.w);
@@ -95,6 +103,12 @@ static void code(struct settings s, int vector_off, int checks_off, int output_o
     answer = repaired.answer;
     assert(right ? answer == SAJOWEMI_DONE || answer == SAJOWEMI_NONE : answer == SAJOWEMI_CODE_LENGTH);
     assert(answer == SAJOWEMI_DONE || repaired.changed == 0);
+    if (answer == SAJOWEMI_CODE_LENGTH)
+        assert(are_tried(s, repaired.tried, 0));
+    else if (answer == SAJOWEMI_NONE)
+        assert(are_tried(s, repaired.tried, s.n + 2 * s.t));
+    else
+        assert(are_tried(s, repaired.tried, repaired.tried[0]));
     assert(is_kept(output, answer == SAJOWEMI_DONE ? (size_t)vector_right : 0, output_length));
     answer = sajowemi_check_values(s.n, s.t, s.w, vector, vector_length, checks, checks_length);
     assert(answer == (vector_off == 0 && checks_off >= 0 ? SAJOWEMI_DONE : SAJOWEMI_CODE_LENGTH));

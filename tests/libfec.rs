@@ -1,6 +1,7 @@
 //! Check values and repair of the compiled library beside libfec, set to this field and these roots: random settings and vectors, none to
-//! t + 3 wrong places in each plane, the same in every plane or others in each, in a quarter of the inputs in the checks alone. Compared
-//! are answers, lent bytes, and how many places repair changed with how many libfec says it corrected. The first difference ends the run.
+//! t + 3 wrong places in each plane, the same in every plane or others in each, as many or not, in a quarter of the inputs in the checks
+//! alone. Compared are answers, lent bytes, how many places repair changed with how many libfec says it corrected, and how many it tried in
+//! each plane with the last in which libfec's word differs. The first difference ends the run.
 
 #[path = "../rust/src/archive.rs"]
 mod archive;
@@ -81,10 +82,13 @@ fn input(coders: &libfec::Coders, chance: &mut Chance) -> Input {
         (0, &theirs),
     );
     let first = if chance.one_in(4) { n } else { 0 };
-    let wrong = chance.below(t as u64 + 4) as usize;
-    let same_in_all = chance.one_in(2);
+    let mut wrong = chance.below(t as u64 + 4) as usize;
+    let (same_in_all, as_many) = (chance.one_in(2), chance.one_in(2));
     let mut places = some_places(&input, first, wrong, chance);
     for plane in 0..w {
+        if !as_many {
+            wrong = chance.below(t as u64 + 4) as usize;
+        }
         if !same_in_all {
             places = some_places(&input, first, wrong, chance);
         }
@@ -99,6 +103,7 @@ fn input(coders: &libfec::Coders, chance: &mut Chance) -> Input {
 fn main() {
     let (coders, mut chance) = (libfec::Coders::new(), Chance::new(3));
     let (mut none, mut unchanged, mut to_t, mut above_t) = (0, 0, 0, 0);
+    let (mut apart, mut none_apart) = (0, 0);
     for _ in 0..INPUTS {
         let input = input(&coders, &mut chance);
         let Input {
@@ -111,11 +116,19 @@ fn main() {
         let (mut ours, mut theirs) = ([0xa5; 300], [0xa5; 300]);
         let room = n * w + chance.below(20) as usize;
         let (n_, t_, w_) = (n as u32, t as u32, w as u32);
-        let archive::Repaired { answer, changed } =
-            archive::repair(n_, t_, w_, vector, checks, &mut ours[..room]);
-        let (their_answer, corrected) = coders.repair(n, t, w, vector, checks, &mut theirs[..room]);
+        let archive::Repaired {
+            answer,
+            changed,
+            tried,
+        } = archive::repair(n_, t_, w_, vector, checks, &mut ours[..room]);
+        let (their_answer, corrected, last) =
+            coders.repair(n, t, w, vector, checks, &mut theirs[..room]);
         same("repair", &input, (answer, ours), (their_answer, theirs));
         same("the places changed", &input, changed, corrected);
+        same("the places tried", &input, tried, last);
+        let differ = tried[..w].iter().any(|places| *places != tried[0]);
+        apart += u32::from(differ);
+        none_apart += u32::from(differ && answer == NONE);
         match changed {
             _ if answer == NONE => none += 1,
             0 => unchanged += 1,
@@ -125,6 +138,7 @@ fn main() {
     }
     println!(
         "libfec: {INPUTS} vectors have the same check values and are repaired alike: {none} as none, {unchanged} with no place changed, \
-         {to_t} with 1 to t, {above_t} with more than t over their planes"
+         {to_t} with 1 to t, {above_t} with more than t over their planes; {apart} tried up to another place in one plane than in another, \
+         {none_apart} of these as none"
     );
 }

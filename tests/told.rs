@@ -1,5 +1,5 @@
 //! How far off each sender was (Ask 2), in worked cases: what rounds two and three told as written out here, as a search through all words
-//! within one place has it, and as the library says; and what repair itself counts.
+//! within one place has it, and as the library says; and what repair itself counts, with how many places it tries in each plane (Ask 5).
 
 #[path = "../rust/src/archive.rs"]
 mod archive;
@@ -8,7 +8,7 @@ mod division;
 #[path = "../models/frames.rs"]
 mod frames;
 
-use archive::{Column, MOST_COLUMNS, Repaired};
+use archive::{Column, MOST_COLUMNS, Repaired, VALUE_ROOM};
 use division::check_values;
 use frames::{command_of, frame};
 use std::collections::BTreeSet;
@@ -169,16 +169,17 @@ fn told_by_search(exchange: &Exchange, vector: &[u8], sent: &[Option<&[u8]>; 4])
     })
 }
 
-fn in_room(told: &[u8]) -> [u8; MOST_COLUMNS] {
-    let mut room = [0; MOST_COLUMNS];
-    room[..told.len()].copy_from_slice(told);
+/// These numbers, and zeros behind them.
+fn in_room<const ROOM: usize>(numbers: &[u8]) -> [u8; ROOM] {
+    let mut room = [0; ROOM];
+    room[..numbers.len()].copy_from_slice(numbers);
     room
 }
 
 /// The record has these two lists, and its result the same; before the end the result is refused, with zeros.
 fn assert_told(column: &Column, told: [&[u8]; 2], when: &str) {
     let found = &column.found;
-    let told = told.map(in_room);
+    let told = told.map(in_room::<MOST_COLUMNS>);
     assert_eq!([found.told_two, found.told_three], told, "{when}");
     let held = archive::result(column);
     let (answer, told) = if column.round == 4 {
@@ -294,39 +295,42 @@ fn repair(
     vector: &[u8],
     checks: &[u8],
     output: &mut [u8],
-) -> (u32, u32) {
-    let Repaired { answer, changed } =
-        archive::repair(n as u32, t as u32, w as u32, vector, checks, output);
-    (answer, changed)
+) -> (u32, u32, [u8; VALUE_ROOM]) {
+    let Repaired {
+        answer,
+        changed,
+        tried,
+    } = archive::repair(n as u32, t as u32, w as u32, vector, checks, output);
+    (answer, changed, tried)
 }
 
-/// n, t, w; what is wrong, by place and plane; and how many places that are.
+/// n, t, w; what is wrong, by place and plane; how many places that are, and how many are tried in each plane up to the last of them.
 #[rustfmt::skip]
-const COUNTS: [((usize, usize, usize), &[(usize, usize)], u32); 15] = [
-    ((4, 1, 3), &[], 0),
-    ((4, 1, 3), &[(3, 2)], 1),
+const COUNTS: [((usize, usize, usize), &[(usize, usize)], u32, &[u8]); 15] = [
+    ((4, 1, 3), &[], 0, &[0, 0, 0]),
+    ((4, 1, 3), &[(3, 2)], 1, &[0, 0, 4]),
     // One place in two planes, and in all of them.
-    ((4, 1, 3), &[(1, 0), (1, 1)], 1),
-    ((4, 1, 3), &[(1, 0), (1, 1), (1, 2)], 1),
+    ((4, 1, 3), &[(1, 0), (1, 1)], 1, &[2, 2, 0]),
+    ((4, 1, 3), &[(1, 0), (1, 1), (1, 2)], 1, &[2, 2, 2]),
     // Another place in each plane.
-    ((4, 1, 3), &[(0, 0), (2, 1)], 2),
-    ((4, 1, 3), &[(0, 0), (2, 1), (0, 2)], 2),
+    ((4, 1, 3), &[(0, 0), (2, 1)], 2, &[1, 3, 0]),
+    ((4, 1, 3), &[(0, 0), (2, 1), (0, 2)], 2, &[1, 3, 1]),
     // Checks.
-    ((4, 1, 3), &[(4, 1)], 1),
-    ((4, 1, 3), &[(5, 0), (5, 2)], 1),
-    ((4, 1, 3), &[(4, 0), (5, 1)], 2),
+    ((4, 1, 3), &[(4, 1)], 1, &[0, 5, 0]),
+    ((4, 1, 3), &[(5, 0), (5, 2)], 1, &[6, 0, 6]),
+    ((4, 1, 3), &[(4, 0), (5, 1)], 2, &[5, 6, 0]),
     // More than t in all, columns and a check.
-    ((4, 1, 3), &[(1, 0), (3, 1), (5, 2)], 3),
+    ((4, 1, 3), &[(1, 0), (3, 1), (5, 2)], 3, &[2, 4, 6]),
     // The two of one plane and the two of the other have one in common.
-    ((7, 2, 2), &[(0, 0), (1, 0), (1, 1), (2, 1)], 3),
-    ((7, 2, 1), &[(2, 0), (10, 0)], 2),
-    ((7, 2, 4), &[(0, 0), (1, 0), (2, 1), (3, 1), (4, 2), (5, 2), (6, 3), (7, 3)], 8),
-    ((1, 0, 8), &[], 0),
-    ((31, 10, 1), &[(0, 0), (3, 0), (6, 0), (9, 0), (30, 0), (31, 0), (35, 0), (40, 0), (49, 0), (50, 0)], 10),
+    ((7, 2, 2), &[(0, 0), (1, 0), (1, 1), (2, 1)], 3, &[2, 3]),
+    ((7, 2, 1), &[(2, 0), (10, 0)], 2, &[11]),
+    ((7, 2, 4), &[(0, 0), (1, 0), (2, 1), (3, 1), (4, 2), (5, 2), (6, 3), (7, 3)], 8, &[2, 4, 6, 8]),
+    ((1, 0, 8), &[], 0, &[0; 8]),
+    ((31, 10, 1), &[(0, 0), (3, 0), (6, 0), (9, 0), (30, 0), (31, 0), (35, 0), (40, 0), (49, 0), (50, 0)], 10, &[51]),
 ];
 
 fn counts() {
-    for ((n, t, w), wrong, changed) in COUNTS {
+    for ((n, t, w), wrong, changed, tried) in COUNTS {
         let which = format!("n {n}, t {t}, w {w}, wrong {wrong:?}");
         let (vector, checks) = spoiled(n, t, w, wrong);
         if t == 1 {
@@ -340,27 +344,29 @@ fn counts() {
         let answered = repair(n, t, w, &vector, &checks, &mut output);
         assert_eq!(
             (answered, output),
-            ((0, changed), some_vector(n, w)),
+            ((0, changed, in_room(tried)), some_vector(n, w)),
             "{which}"
         );
     }
 }
 
-/// Nothing near in one plane, whatever the other says, and refusals: no place is counted, and the output keeps its bytes.
+/// Nothing near in one plane, whatever the other says, and refusals: no place is counted, and the output keeps its bytes. A plane with
+/// nothing near has all six places tried, and the other those up to its wrong one; a refusal has none.
 fn nothing_counted() {
     // Both planes are [241, 86, 35, 35]: by [22, 77] nothing is near, by [0, 136] column 3 is wrong, by [22, 61] column 2.
     let vector = [241, 241, 86, 86, 35, 35, 35, 35];
     let mut output = [9; 8];
-    for (checks, near) in [
-        ([22, 22, 77, 77], None),
-        ([22, 0, 77, 136], None),
-        ([0, 22, 136, 77], None),
-        ([0, 0, 136, 136], Some(1)),
-        ([0, 22, 136, 61], Some(2)),
+    for (checks, near, tried) in [
+        ([22, 22, 77, 77], None, [6, 6]),
+        ([22, 0, 77, 136], None, [6, 3]),
+        ([0, 22, 136, 77], None, [3, 6]),
+        ([0, 0, 136, 136], Some(1), [3, 3]),
+        ([0, 22, 136, 61], Some(2), [3, 2]),
     ] {
         assert_eq!(searched(&vector, &checks, 2), near);
         let answered = repair(4, 1, 2, &vector, &checks, &mut output);
-        assert_eq!(answered, near.map_or((256, 0), |places| (0, places as u32)));
+        let (answer, changed) = near.map_or((256, 0), |places| (0, places as u32));
+        assert_eq!(answered, (answer, changed, in_room(&tried)));
         assert_eq!(output == [9; 8], near.is_none());
         output = [9; 8];
     }
@@ -372,7 +378,8 @@ fn nothing_counted() {
         (4, 1, 0, 3),
         (4, 1, 9, 3),
     ] {
-        assert_eq!(repair(n, t, w, &vector, &checks, &mut output), (answer, 0));
+        let answered = repair(n, t, w, &vector, &checks, &mut output);
+        assert_eq!(answered, (answer, 0, [0; 8]));
     }
     for (vector, checks, room) in [
         (&vector[1..], &checks[..], 8),
@@ -380,7 +387,7 @@ fn nothing_counted() {
         (&vector[..], &checks[..], 7),
     ] {
         let answered = repair(4, 1, 2, vector, checks, &mut output[..room]);
-        assert_eq!(answered, (18, 0));
+        assert_eq!(answered, (18, 0, [0; 8]));
     }
     assert_eq!(output, [9; 8]);
 }
@@ -391,7 +398,11 @@ fn all_wrong() {
     let (vector, checks) = spoiled(32, 10, 8, &wrong);
     let mut output = [0; 256];
     let answered = repair(32, 10, 8, &vector, &checks, &mut output);
-    assert_eq!((answered, &output[..]), ((0, 52), &some_vector(32, 8)[..]));
+    let tried = [49, 50, 51, 52, 45, 46, 47, 48];
+    assert_eq!(
+        (answered, &output[..]),
+        ((0, 52, tried), &some_vector(32, 8)[..])
+    );
     let mut column = opened(32, 10, 8, 1, &vector[..8]);
     for (k, value) in (1..).zip(vector.chunks(8)).skip(1) {
         column = taken(&column, k, RUN, value, 0);
@@ -409,7 +420,7 @@ fn main() {
     nothing_counted();
     all_wrong();
     println!(
-        "told: how far off each sender was, as worked out for four columns in two exchanges, and {} counts of repair",
+        "told: how far off each sender was, as worked out for four columns in two exchanges, and {} counts of repair with the places tried",
         COUNTS.len()
     );
 }

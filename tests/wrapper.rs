@@ -1,5 +1,6 @@
 //! The safe crate: an exchange of four good columns, how far off senders were as a record has it, the level where one column is silent,
-//! every refusal it can name, the size of a frame against what `send` writes, and the texts, which are those of the C header.
+//! repair with the places that it changed and tried, every refusal it can name, the size of a frame against what `send` writes, and the
+//! texts, which are those of the C header.
 
 use sajowemi::{
     Beliefs, Column, LONGEST_FRAME, Level, Refusal, Repair, Settings, Told, archive, check_values,
@@ -156,30 +157,53 @@ fn level_beside_a_silent_column() {
     }
 }
 
+/// How many places were changed, None where nothing is near; how many were tried in each plane; and the output with a byte behind it.
+fn repaired(
+    settings: Settings,
+    vector: &[u8],
+    checks: &[u8],
+) -> Result<(Option<u32>, Vec<u8>, Vec<u8>), Refusal> {
+    let mut output = vec![9; vector.len() + 1];
+    let (changed, tried) = match repair(settings, vector, checks, &mut output)? {
+        Repair::Repaired { changed, tried } => (Some(changed), tried),
+        Repair::Nothing { tried } => (None, tried),
+    };
+    Ok((changed, tried.planes().to_vec(), output))
+}
+
 fn code() {
     let vector = [241, 86, 35, 35];
     let mut checks = [9; 3];
     assert_eq!(check_values(FOUR, &vector, &mut checks), Ok(()));
     assert_eq!(checks, [39, 78, 9]);
-    let mut output = [9; 5];
     assert_eq!(
-        repair(FOUR, &vector, &[22, 77], &mut output),
-        Ok(Repair::Nothing)
+        repaired(FOUR, &vector, &[22, 77]),
+        Ok((None, vec![6], vec![9; 5]))
     );
-    assert_eq!(output, [9; 5]);
     assert_eq!(
-        repair(FOUR, &vector, &[0, 136], &mut output),
-        Ok(Repair::Repaired { changed: 1 })
+        repaired(FOUR, &vector, &[0, 136]),
+        Ok((Some(1), vec![3], vec![241, 86, 129, 35, 9]))
     );
-    assert_eq!(output, [241, 86, 129, 35, 9]);
     assert_eq!(
-        repair(FOUR, &vector, &[39, 78], &mut output),
-        Ok(Repair::Repaired { changed: 0 })
+        repaired(FOUR, &vector, &[39, 78]),
+        Ok((Some(0), vec![0], vec![241, 86, 35, 35, 9]))
     );
-    assert_eq!(output, [241, 86, 35, 35, 9]);
+    assert_eq!(repaired(FOUR, &vector, &[0]), Err(Refusal::CodeLength));
+    let (two, vector) = (
+        Settings { w: 2, ..FOUR },
+        [241, 241, 86, 86, 35, 35, 35, 35],
+    );
     assert_eq!(
-        repair(FOUR, &vector, &[0], &mut output),
-        Err(Refusal::CodeLength)
+        repaired(two, &vector, &[0, 22, 136, 61]),
+        Ok((
+            Some(2),
+            vec![3, 2],
+            vec![241, 241, 86, 49, 129, 35, 35, 35, 9]
+        ))
+    );
+    assert_eq!(
+        repaired(two, &vector, &[22, 0, 77, 136]),
+        Ok((None, vec![6, 3], vec![9; 9]))
     );
     assert_eq!(
         check_values(Settings { n: 3, t: 1, w: 1 }, &vector, &mut checks),

@@ -95,8 +95,8 @@ fn tables(group: &Group, coder: &Coder, round: u8, own: &OfGood<Vector>) -> OfGo
     own.keys().map(table).collect()
 }
 
-/// The vector of the one codeword within t places of every plane, and how many places it changes in some plane. The equations find both;
-/// here they are looked at again.
+/// The vector of the one codeword within t places of every plane, and how many places it changes in some plane. The equations find both,
+/// and the last place changed in each plane; here they are looked at again.
 pub fn repaired(
     group: &Group,
     coder: &Coder,
@@ -105,7 +105,8 @@ pub fn repaired(
 ) -> Option<(Vector, usize)> {
     let [n, t, w] = [group.n, group.t, group.w].map(|setting| setting as u32);
     let mut bytes = vec![0; group.n * group.w];
-    let (answer, counted) = linear::repair(n, t, w, &own.concat(), &checks.concat(), &mut bytes);
+    let (answer, counted, tried) =
+        linear::repair(n, t, w, &own.concat(), &checks.concat(), &mut bytes);
     if answer != 0 {
         return None;
     }
@@ -113,14 +114,18 @@ pub fn repaired(
     let found = [vector.as_slice(), &coder.checks(&vector)].concat();
     let given = [own, checks].concat();
     for p in 0..group.w {
-        let wrong = found
-            .iter()
-            .zip(&given)
-            .filter(|(a, b)| a[p] != b[p])
-            .count();
+        let wrong: Vec<usize> = (0..given.len())
+            .filter(|&place| found[place][p] != given[place][p])
+            .collect();
         assert!(
-            wrong <= group.t,
-            "repaired in {wrong} places: {own:?} by {checks:?}"
+            wrong.len() <= group.t,
+            "repaired in {} places: {own:?} by {checks:?}",
+            wrong.len()
+        );
+        assert_eq!(
+            usize::from(tried[p]),
+            wrong.last().map_or(0, |place| place + 1),
+            "the last place changed in plane {p}: {own:?} by {checks:?}"
         );
     }
     let changed = found.iter().zip(&given).filter(|(a, b)| a != b).count();

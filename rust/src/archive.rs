@@ -3,7 +3,7 @@
 /// The longest frame, header included.
 pub const LONGEST_FRAME: usize = 164;
 pub const MOST_COLUMNS: usize = 32;
-/// The most bytes of a value.
+/// The most bytes of a value, each of which is a plane of the code.
 pub const VALUE_ROOM: usize = 8;
 /// Room for a value of every column.
 pub const VECTOR_ROOM: usize = MOST_COLUMNS * VALUE_ROOM;
@@ -86,12 +86,14 @@ pub struct Level {
 }
 
 /// The answer of repair, and how many of the n + 2t places it changed: columns' values, then check values, a place counted once if any
-/// byte of it changed. 0 for a refusal and for none.
+/// byte of it changed. 0 for a refusal and for none. And for each of w byte planes how many places its search tried, up to the last wrong
+/// one: 0 where none is wrong, all n + 2t where the plane has no codeword near, zeros behind w planes and for a refusal.
 #[derive(Clone, Copy)]
 #[repr(C)]
 pub struct Repaired {
     pub answer: u32,
     pub changed: u32,
+    pub tried: [u8; VALUE_ROOM],
 }
 
 mod linked {

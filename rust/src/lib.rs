@@ -217,15 +217,49 @@ pub fn check_values(settings: Settings, vector: &[u8], output: &mut [u8]) -> Res
 pub enum Repair {
     /// The output begins with the one vector near enough in every byte plane. So many of the n + 2t places, columns' values and check
     /// values together, were changed: a place counts once if any byte of it changed.
-    Repaired { changed: u32 },
+    Repaired { changed: u32, tried: Tried },
     /// Some plane has no codeword near; the output keeps its bytes.
-    Nothing,
+    Nothing { tried: Tried },
+}
+
+/// How many places the search for wrong ones tried in each byte plane: plane p, from 0 on, is byte p of every value and check value.
+#[derive(Clone, Copy, Debug, PartialEq, Eq)]
+pub struct Tried {
+    w: usize,
+    places: [u8; archive::VALUE_ROOM],
+}
+
+impl Tried {
+    /// The w planes. A search goes through columns 1 to n, then checks 1 to 2t, and ends at the last wrong one: 0 where none is wrong, and
+    /// all n + 2t where the plane has no codeword near, whatever the other planes have; all n + 2t too where the last check is wrong.
+    pub fn planes(&self) -> &[u8] {
+        &self.places[..self.w]
+    }
 }
 
 /// The archive's answer where nothing is near.
 const NONE: u32 = 256;
 
 /// The vector of n values repaired by the 2t check values received, in front of the output, whose other bytes are kept.
+///
+/// ```
+/// use sajowemi::{Repair, Settings, check_values, repair};
+///
+/// let settings = Settings { n: 4, t: 1, w: 2 };
+/// let (mut vector, mut checks) = ([1, 2, 3, 4, 5, 6, 7, 8], [0; 4]);
+/// check_values(settings, &vector, &mut checks)?;
+/// vector[5] = 60; // the second byte of column 3's value
+///
+/// let mut output = [0; 8];
+/// match repair(settings, &vector, &checks, &mut output)? {
+///     Repair::Repaired { changed, tried } => {
+///         assert_eq!((changed, tried.planes()), (1, &[0, 3][..]));
+///         assert_eq!(output, [1, 2, 3, 4, 5, 6, 7, 8]);
+///     }
+///     Repair::Nothing { .. } => panic!("one place is wrong, and one is borne"),
+/// }
+/// # Ok::<(), sajowemi::Refusal>(())
+/// ```
 pub fn repair(
     settings: Settings,
     vector: &[u8],
@@ -233,9 +267,17 @@ pub fn repair(
     output: &mut [u8],
 ) -> Result<Repair, Refusal> {
     let Settings { n, t, w } = settings;
-    let archive::Repaired { answer, changed } = archive::repair(n, t, w, vector, checks, output);
+    let archive::Repaired {
+        answer,
+        changed,
+        tried: places,
+    } = archive::repair(n, t, w, vector, checks, output);
+    let tried = Tried {
+        w: w as usize,
+        places,
+    };
     match answer {
-        NONE => Ok(Repair::Nothing),
-        _ => Refusal::from_answer(answer).map(|()| Repair::Repaired { changed }),
+        NONE => Ok(Repair::Nothing { tried }),
+        _ => Refusal::from_answer(answer).map(|()| Repair::Repaired { changed, tried }),
     }
 }

@@ -154,7 +154,7 @@ fn told(column: &Column, vector: &[u8; 256]) -> [u8; 32] {
             continue;
         }
         told[k] = match linear::repair(n, t, w, vector, &bytes[4..4 + checks], &mut [0; 256]) {
-            (0, changed) => changed as u8,
+            (0, changed, _) => changed as u8,
             _ => 255,
         };
     }
