@@ -8,7 +8,7 @@ use Rattle.code.specs.Settings.{Settings, settings-refusal, check-count,
 use Rattle.code.specs.Polynomial.{generator, Remainder}
 use Rattle.code.specs.Plane.{is-codeword, byte-list, data-polynomial, check-polynomial}
 use Rattle.code.specs.Vector.{plane, is-vector, has-checks, differ-values}
-use Rattle.code.specs.Repair.{Near, Repaired, changed-places}
+use Rattle.code.specs.Repair.{Near, Repaired, changed-places, Tried}
 
 -- two ways to say that bytes are the checks of a plane: zero at the roots, and the remainder by the generator
 unfoldable pub Checks-remain : Type 0
@@ -28,6 +28,12 @@ unfoldable pub One-near : Type 0
 One-near =
     (s : Settings) (bs cs us ds xs ys : List ℕ) → settings-refusal s ≡ 0 → length bs ≡ s .n → length cs ≡ check-count s →
     Near s bs cs us ds → Near s bs cs xs ys → (us ≡ xs) × (ds ≡ ys)
+
+-- the search of a plane tries one number of places
+unfoldable pub One-tried : Type 0
+One-tried =
+    (s : Settings) (bs cs : List ℕ) (k l : ℕ) → settings-refusal s ≡ 0 → length bs ≡ s .n → length cs ≡ check-count s → Tried s bs cs k → Tried s bs cs l →
+    k ≡ l
 
 -- a vector and check values have at most one repair, in its values and in its check values
 unfoldable pub One-repair : Type 0

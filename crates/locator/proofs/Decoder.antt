@@ -15,11 +15,17 @@ use Rattle.code.specs.Repair.{Near}
 use Rattle.arrays.proofs.Bytes.{Bytes, bytes-zeros}
 use Rattle.code.proofs.Codewords.Word.{Shape}
 use Rattle.locator.specs.Locator.{massey}
-use Rattle.locator.specs.Errors.{error-byte, mended, Explained, Near-errors, Error-bytes}
+use Rattle.locator.specs.Errors.{error-byte, mended, Near-errors}
 use Rattle.locator.specs.Search.{at-place, roots-below}
+use Rattle.locator.proofs.Errors.Explained.{Explained}
 use Rattle.locator.proofs.Errors.Mended.{mended-length, mended-at}
 use Rattle.locator.proofs.Decoding.Sound.{explained-near}
 use Rattle.locator.proofs.Decoding.Complete.{near-size, near-counted}
+
+-- the errors of the columns
+pub record Error-bytes (s : Settings) (weighted bytes : List ℕ) : Type 0 where
+  pub many : length bytes ≡ s .n
+  pub each : (j : ℕ) → j < s .n → getD bytes j 0 ≡ error-byte s j (getD weighted j 0)
 
 -- zero bytes with their errors added are the errors
 pub mended-zeros : (s : Settings) (ys es : List ℕ) → s .n ≤ length ys → Error-bytes s ys es → es ≡ mended s 0 (replicate (s .n) 0) (take (s .n) ys)

@@ -1,5 +1,6 @@
 -- Weighted errors by the number of their place.
 pub mod Places
+pub mod Explained
 pub mod Totals
 pub mod Mended
 pub mod Last

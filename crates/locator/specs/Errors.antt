@@ -1,16 +1,14 @@
--- The errors at all the places of a plane: where a place stands, what its error is, and when the errors are the answer. As the
--- locator, they exist to be proved to find what Near says. Assumes nothing: these are definitions.
-use mathlib.Core.Path.{_≡_}
+-- The errors at all the places of a plane: where a place stands, what an error adds to its byte, how many there are, and when they are
+-- those of a codeword near. Assumes nothing: these are definitions.
 use mathlib.Core.Bool.{cond}
 use mathlib.Core.List.{List, [], _∷_}
-use Prim.Native.Nat.{ℕ, suc, _+_, _*_, _-_, _≤_, _<_}
+use Prim.Native.Nat.{ℕ, suc, _+_, _*_, _-_, _≤_}
 use lib.Dec.{ltb, eqb}
-use lib.ListN.{length, getD, take, drop, replicate}
+use lib.ListN.{take, drop, replicate}
 use Rattle.field.specs.Field.{plus, times, power, inverse}
 use Rattle.code.specs.Polynomial.{first-exponent}
 use Rattle.code.specs.Settings.{Settings, check-count}
 use Rattle.code.specs.Repair.{Near}
-use Rattle.locator.specs.Locator.{massey, value}
 
 -- place j of n columns and so many checks is 2 to this power: first the columns, then the checks
 unfoldable pub place-exponent : (n checks j : ℕ) → ℕ
@@ -31,28 +29,8 @@ unfoldable pub wrong-places : (weighted : List ℕ) → ℕ
 wrong-places [] = 0
 wrong-places (y ∷ ys) = cond (eqb y 0) 0 1 + wrong-places ys
 
--- the power sum i of the weighted errors at the places from place j on
-unfoldable pub error-sum : Settings → (i j : ℕ) → (weighted : List ℕ) → ℕ
-error-sum s i j [] = 0
-error-sum s i j (y ∷ ys) = plus (times y (power (power 2 (place-exponent (s .n) (check-count s) j)) i)) (error-sum s i (suc j) ys)
-
--- the weighted errors that the locator of the power sums S tells
-pub record Located (s : Settings) (S : ℕ → ℕ) (weighted : List ℕ) : Type 0 where
-  pub many : length weighted ≡ s .n + check-count s
-  pub each : (j : ℕ) → j < s .n + check-count s → getD weighted j 0 ≡ value S (massey S (check-count s) .locator) (power 2 (place-exponent (s .n) (check-count s) j))
-
--- at most t errors, and S is what they sum up to
-pub record Explained (s : Settings) (S : ℕ → ℕ) (weighted : List ℕ) : Type 0 where
-  pub few : wrong-places weighted ≤ s .t
-  pub sums : (i : ℕ) → i < check-count s → plus (S i) (error-sum s i 0 weighted) ≡ 0
-
 -- the weighted errors of a plane of zeros and the checks cs, at its places in order, columns 1 to n and then checks 1 to 2t: at
 -- most t are not 0, and with them the plane is a codeword
 pub record Near-errors (s : Settings) (cs weighted : List ℕ) : Type 0 where
   pub few : wrong-places weighted ≤ s .t
   pub near : Near s (replicate (s .n) 0) cs (mended s 0 (replicate (s .n) 0) (take (s .n) weighted)) (mended s (s .n) cs (drop (s .n) weighted))
-
--- the errors of the columns
-pub record Error-bytes (s : Settings) (weighted bytes : List ℕ) : Type 0 where
-  pub many : length bytes ≡ s .n
-  pub each : (j : ℕ) → j < s .n → getD bytes j 0 ≡ error-byte s j (getD weighted j 0)

@@ -31,9 +31,10 @@ use Rattle.field.proofs.Division.{inverse-lt}
 use Rattle.code.specs.Settings.{Settings, check-count, value-size}
 use Rattle.code.proofs.Vectors.Planes.{Values, vector-back, plane-length}
 use Rattle.locator.specs.Locator.{value}
-use Rattle.locator.specs.Errors.{error-byte, Error-bytes}
+use Rattle.locator.specs.Errors.{error-byte}
 use Rattle.lanes.proofs.Lane.{lane-at}
 use Rattle.locator.proofs.Errors.Places.{place-exponent-column}
+use Rattle.locator.proofs.Decoder.{Error-bytes}
 
 -- one more value
 cut-more : (k w : ℕ) (bs : List ℕ) → cut (suc k) w bs ≡ cut k w bs ++ (take w (drop (k * w) bs) ∷ [])

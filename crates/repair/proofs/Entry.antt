@@ -11,9 +11,7 @@ use lib.Dec.{eqb, ltb}
 use lib.ListN.{length}
 use borrow.Author.Tests.{eq-eqb, ne-eqb, le-ltb, eqb-true, ltb-false}
 use Rattle.code.specs.Settings.{Settings, settings, settings-refusal, check-count, value-size}
-use Rattle.code.specs.Repair.{Tried-planes}
-use Rattle.code.specs.Entry.{values-in}
-use Rattle.repair.specs.Entry.{repair-refusal, Done, none-tried, Repair-as, Repair-says, repair-by-refusal, Done-by, Tried-by, Repair-by-as, Repair-by-says}
+use Rattle.repair.specs.Entry.{repair-refusal, none-tried, Repair-as, Repair-says, repair-by-refusal, Repair-by-as, Repair-by-says}
 
 -- three tests of lengths
 some-refuses : (a b d : Bool) → (a ≡ false) ⊎ ((b ≡ false) ⊎ (d ≡ true)) → _≡_ {A = ℕ} (cond (not a || (not b || d)) 18 0) 18
@@ -101,10 +99,8 @@ module _ (n t w : ℕ) where
 
     pub repair-done :
         (r m : ℕ) (k now : List ℕ) → repair-refusal (settings n t w) (length vector) (length checks) (length out) ≡ 0 →
-        Done (settings n t w) (values-in (settings n t w) n vector) (values-in (settings n t w) (2 * t) checks) r m out now
-        × Tried-planes (settings n t w) (values-in (settings n t w) n vector) (values-in (settings n t w) (2 * t) checks) k →
-        Repair-says n t w vector checks r m k out now
-    unfolding Repair-says Repair-as settings check-count
+        Repair-as 0 (settings n t w) vector checks r m k out now → Repair-says n t w vector checks r m k out now
+    unfolding Repair-says
     repair-done r m k now e d = subst (λ (i : ℕ). Repair-as i (settings n t w) vector checks r m k out now) (sym e) d
 
     module _ (own : List ℕ) where
@@ -141,10 +137,8 @@ module _ (n t w : ℕ) where
 
       pub repair-by-done :
           (r m : ℕ) (k now : List ℕ) → repair-refusal (settings n t w) (length vector) (length checks) (length out) ≡ 0 → length own ≡ 2 * t * w →
-          Done-by (settings n t w) (values-in (settings n t w) n vector) (values-in (settings n t w) (2 * t) own) (values-in (settings n t w) (2 * t) checks) r m out now
-          × Tried-by (settings n t w) (values-in (settings n t w) (2 * t) own) (values-in (settings n t w) (2 * t) checks) k →
-          Repair-by-says n t w vector own checks r m k out now
-      unfolding Repair-by-says Repair-by-as settings check-count
+          Repair-by-as 0 (settings n t w) vector own checks r m k out now → Repair-by-says n t w vector own checks r m k out now
+      unfolding Repair-by-says
       repair-by-done r m k now e h d = subst (λ (i : ℕ). Repair-by-as i (settings n t w) vector own checks r m k out now) (sym (own-number e ∙ passes)) d
         where
           passes : _≡_ {A = ℕ} (cond (eqb (length own) (2 * t * w)) 0 18) 0

@@ -39,7 +39,7 @@ module _ (s : Settings) (cs ys : List ℕ) (left k : ℕ) where
   plane-tried e b f c (inr (more, none, all)) = inr (none, all)
 
 -- all planes
-module _ (w : ℕ) (s : Settings) (rows left tried weighted : List ℕ) (d : Decoded w s rows left tried weighted) where
+module _ (w : ℕ) (s : Settings) (rows left tried weighted : List ℕ) (turns : ℕ) (d : Decoded w s rows left tried weighted turns) where
   pub all-near : all-zero left ≡ true → (p : ℕ) → p < w → Near-errors s (lane p (check-count s) rows) (lane p (s .n + check-count s) weighted)
   all-near e p h = plane-near s _ _ _ _ (zero-at left e p) (d .each p h)
 

@@ -40,12 +40,35 @@ wrong-row-more k end ys empty e z =
     (ap (λ (i : ℕ). all-zero (take i (drop (row-width * k) ys))) (let w : row-width ≡ end - row-width * k = omega arith in w) ∙ z)
     ∙ (let f : wrong-rows k ys + (cond empty 0 1 + 0) ≡ wrong-rows k ys + cond empty 0 1 = omega arith in f)
 
--- a value is changed where its row has an error
+-- rows behind those that have an error
 zeros-all : (many : ℕ) (ys : List ℕ) → ((p : ℕ) → p < many → getD ys p 0 ≡ 0) → all-zero (take many ys) ≡ true
 zeros-all zero ys z = refl
 zeros-all (suc k) [] z = refl
 zeros-all (suc k) (y ∷ ys) z = and-intro (eq-eqb y 0 (z 0 (omega arith))) (zeros-all k ys (λ p h. z (suc p) (omega arith)))
 
+wrong-rows-zeros : (m : ℕ) (ys : List ℕ) → ((j p : ℕ) → p < row-width → getD ys (in-row j p) 0 ≡ 0) → wrong-rows m ys ≡ 0
+unfolding wrong-rows
+wrong-rows-zeros zero ys z = refl
+wrong-rows-zeros (suc m) ys z =
+    ap₂ (λ (q : Bool) (i : ℕ). cond q 0 1 + i)
+    (zeros-all row-width ys (λ p h. ap (λ (i : ℕ). getD ys i 0) (let e : p ≡ in-row 0 p = omega arith in e) ∙ z 0 p h))
+    (wrong-rows-zeros m (drop row-width ys)
+    (λ j p h. getD-drop row-width ys (in-row j p) 0 ∙ ap (λ (i : ℕ). getD ys i 0) (let e : row-width + in-row j p ≡ in-row (suc j) p = omega arith in e) ∙ z (suc j) p h))
+
+pub wrong-rows-ended :
+    (turns places : ℕ) (ys : List ℕ) → turns ≤ places → ((j p : ℕ) → turns ≤ j → p < row-width → getD ys (in-row j p) 0 ≡ 0) →
+    wrong-rows turns ys ≡ wrong-rows places ys
+wrong-rows-ended turns places ys h z =
+    sym
+    (ap (λ (i : ℕ). wrong-rows i ys) (let e : places ≡ turns + (places - turns) = omega arith in e) ∙ wrong-rows-plus turns (places - turns) ys
+    ∙ ap (_+_ (wrong-rows turns ys))
+    (wrong-rows-zeros (places - turns) (drop (row-width * turns) ys)
+    (λ j p l.
+    getD-drop (row-width * turns) ys (in-row j p) 0 ∙ ap (λ (i : ℕ). getD ys i 0) (let e : row-width * turns + in-row j p ≡ in-row (turns + j) p = omega arith in e)
+    ∙ z (turns + j) p (omega arith) l))
+    ∙ (let e : wrong-rows turns ys + 0 ≡ wrong-rows turns ys = omega arith in e))
+
+-- a value is changed where its row has an error
 row-changed :
     (width : ℕ) (v u ys : List ℕ) → length v ≡ length u → length v ≤ width → width ≤ length ys →
     ((p : ℕ) → p < length v → eqb (getD v p 0) (getD u p 0) ≡ eqb (getD ys p 0) 0) → ((p : ℕ) → length v ≤ p → p < width → getD ys p 0 ≡ 0) →

@@ -6,8 +6,7 @@ ghost use mathlib.Core.Path.{_≡_};
 ghost use Prim.Native.Nat.{_*_, _≤_};
 ghost use lib.ListN.{length};
 ghost use Rattle.code.specs.Settings.{settings, settings-refusal};
-ghost use Rattle.code.specs.Entry.{values-in};
-ghost use Rattle.repair.specs.Entry.{repair-refusal, none-tried, Repair-says, Repair-by-says, Done-by, Tried-by};
+ghost use Rattle.repair.specs.Entry.{repair-refusal, none-tried, Repair-says, Repair-by-as, Repair-by-says};
 use code::sizes::CHECKS_ROOM;
 use code::sizes::VALUE_ROOM;
 
@@ -128,7 +127,7 @@ fn by_difference(
 ) -> RepairAnswer
     requires { ⌜ settings-refusal (settings n t w) ≡ 0 ⌝ }
     requires { ⌜ (length (now vector) ≡ n * w) × (length (now own) ≡ 2 * t * w) × (length (now checks) ≡ 2 * t * w) × (n * w ≤ length (now output)) ⌝ }
-    ensures { λ r. ⌜ Done-by (settings n t w) (values-in (settings n t w) n (now (vector .entry))) (values-in (settings n t w) (2 * t) (now (own .entry))) (values-in (settings n t w) (2 * t) (now (checks .entry))) (r .answer) (r .changed) (now (output .entry)) (now (output .exit)) × Tried-by (settings n t w) (values-in (settings n t w) (2 * t) (now (own .entry))) (values-in (settings n t w) (2 * t) (now (checks .entry))) (r .tried) ⌝ }
+    ensures { λ r. ⌜ Repair-by-as 0 (settings n t w) (now (vector .entry)) (now (own .entry)) (now (checks .entry)) (r .answer) (r .changed) (r .tried) (now (output .entry)) (now (output .exit)) ⌝ }
 {
     let count = 2 * t;
     let difference = sums::rows::difference(own, checks, count, w);
@@ -150,7 +149,7 @@ fn by_difference(
     }
     let weighted = errors.weighted;
     columns::apply_errors(&powers, &logarithms, vector, &weighted, n, w, output);
-    let changed = changed::count_changed(&weighted, n + count);
+    let changed = changed::count_changed(&weighted, errors.turns);
     RepairAnswer {
         answer: 0,
         changed,

@@ -5,16 +5,13 @@ use mathlib.Core.Path.{_≡_, refl, sym, _∙_, ap, ap₂}
 use mathlib.Core.Bool.{Bool, true, false, cond}
 use mathlib.Core.List.{List, [], _∷_}
 use mathlib.Core.Logic.{inl, inr}
-use Prim.Native.Nat.{ℕ, zero, suc, _+_, _-_, _≤_, _<_}
+use Prim.Native.Nat.{ℕ, _+_, _-_, _≤_, _<_}
 use native.Mathlib.Omega.{arith}
 use native.Mathlib.Decide.{ℕ-discrete, decLe, decLt}
 use lib.Dec.{eqb}
 use lib.ListN.{length, getD, replicate, List·getD-eq-default}
 use borrow.Author.Tests.{eq-eqb, ne-eqb}
-use Rattle.field.specs.Field.{plus, times, power, inverse}
-use Rattle.field.proofs.Xor.{plus-zero}
-use Rattle.field.proofs.Times.{times-zero}
-use Rattle.field.proofs.Power.{power-lt}
+use Rattle.field.specs.Field.{times, power, inverse}
 use Rattle.lanes.specs.Lanes.{in-row, lane}
 use Rattle.lanes.proofs.Lane.{lane-length, lane-at, lane-is, lane-bytes}
 use Rattle.code.specs.Size.{value-room}
@@ -26,16 +23,18 @@ use Rattle.code.proofs.Codewords.Linear.{syndrome-lt}
 use Rattle.sums.specs.Rows.{Check-sums}
 use Rattle.sums.proofs.Sums.CheckSums.{check-sums-syndrome}
 use Rattle.locator.specs.Locator.{State, massey, quotient, value}
-use Rattle.locator.specs.Errors.{place-exponent, Located}
+use Rattle.locator.specs.Errors.{place-exponent}
 use Rattle.locator.specs.Search.{sought, roots-sought, at-place, roots-below, tries, turns}
 use Rattle.locator.proofs.Polynomials.Against.{against-same}
 use Rattle.locator.proofs.Polynomials.Steps.{value-no-root}
 use Rattle.locator.proofs.Locator.Held.{massey-fitting}
+use Rattle.locator.proofs.Errors.Explained.{Located}
 use Rattle.locator.proofs.Errors.Last.{tries-root, turns-all, tried-last}
 use Rattle.locator.proofs.Decoding.Counted.{few-roots-below, located-none, counted-explained, counted-wrong}
 use Rattle.locator.proofs.Decoder.{sound, complete-size, complete-counted}
-use Rattle.search.specs.Planes.{Plane-found, Decoded}
+use Rattle.search.specs.Planes.{Plane-found, Ended, Decoded}
 use Rattle.search.specs.Steps.{plane-sums, Sought-all, Fits, polynomial, Walked}
+use Rattle.search.proofs.NoRoots.{one-nowhere, no-roots-below, one-at}
 use Rattle.search.proofs.Seeking.{short-sought, long-sought, sought-length}
 
 -- the error told looks at no more sums than the polynomial has coefficients
@@ -64,28 +63,6 @@ module _ (planes count t : ℕ) (sums roots rows : List ℕ) (q : Sought-all pla
             (omega (arith, q .size p h, sought-length t (massey (plane-sums p count sums) count) (massey-fitting (plane-sums p count sums) count .locator)));
         others = q .others;
       }
-
--- the constant 1 has no root
-one-anywhere : (s : Settings) (j : ℕ) → at-place s (1 ∷ 0 ∷ []) j ≡ 1
-unfolding at-place eval
-one-anywhere s j =
-    let x = power 2 (place-exponent (s .n) (check-count s) j) in
-    let z : times x 0 ≡ 0 = times-zero x (power-lt 2 _) in
-    let y : plus 0 (times x 0) ≡ 0 = ap (plus 0) z ∙ plus-zero 0 (omega arith) in
-    ap (λ (k : ℕ). plus 1 (times x k)) y ∙ ap (plus 1) z ∙ plus-zero 1 (omega arith)
-
-one-nowhere : (s : Settings) (j : ℕ) → at-place s (1 ∷ 0 ∷ []) j ≡ 0 → ⊥
-one-nowhere s j e = omega (arith, one-anywhere s j, e)
-
-no-roots-below : (v : ℕ → ℕ) → ((j : ℕ) → v j ≡ 0 → ⊥) → (k : ℕ) → roots-below v k ≡ 0
-unfolding roots-below
-no-roots-below v none zero = refl
-no-roots-below v none (suc k) = rw (ne-eqb (v k) 0 (none k)) (omega (arith, no-roots-below v none k))
-
-one-at : (i : ℕ) → getD {A = ℕ} (1 ∷ []) i 0 ≡ getD (1 ∷ 0 ∷ []) i 0
-one-at zero = refl
-one-at (suc zero) = refl
-one-at (suc (suc i)) = refl
 
 -- no error is told but at a root
 value-nowhere :
@@ -239,8 +216,8 @@ module _ (planes : ℕ) (s : Settings) (difference sums roots rows left tried we
     each-plane (yes l) = short l (decLt _ _)
     each-plane (no l) = long (omega arith)
 
-  pub decoded : Decoded planes s difference left tried weighted
-  decoded =
+  pub decoded : (turns : ℕ) → Ended planes (s .n + check-count s) tried weighted turns → Decoded planes s difference left tried weighted turns
+  decoded turns e =
       record {
         long = w .long;
         bytes = w .bytes;
@@ -249,4 +226,5 @@ module _ (planes : ℕ) (s : Settings) (difference sums roots rows left tried we
         each = λ p h. each-plane p h (decLe _ _);
         others = w .others;
         rest = w .rest;
+        ended = e;
       }

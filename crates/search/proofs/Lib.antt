@@ -1,4 +1,5 @@
 pub mod Seeking
 pub mod Turn
 pub mod Walk
+pub mod NoRoots
 pub mod Decoding

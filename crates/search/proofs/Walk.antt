@@ -11,25 +11,24 @@ use lib.Dec.{eqb, ltb}
 use lib.ListN.{length, getD, List·getD-eq-default}
 use borrow.Author.Tests.{eqb-true, eqb-false, lt-ltb, le-ltb}
 use Rattle.arrays.specs.Array.{all-zero}
-use Rattle.arrays.proofs.Zeros.{zero-at}
+use Rattle.arrays.proofs.Zeros.{zero-at, some-not-zero}
 use Rattle.field.specs.Field.{power}
 use Rattle.lanes.specs.Lanes.{row-width, in-row, lane}
 use Rattle.lanes.proofs.Lane.{lane-length, lane-at}
 use Rattle.code.specs.Size.{value-room, place-rows}
 use Rattle.code.specs.Settings.{Settings, check-count}
-use Rattle.code.specs.Polynomial.{eval}
 use Rattle.code.proofs.Polynomials.Arithmetic.{eval-ext}
 use Rattle.locator.specs.Errors.{place-exponent}
 use Rattle.locator.specs.Search.{at-place, roots-below, tries, turns}
 use Rattle.locator.proofs.Polynomials.Steps.{value-lt}
-use Rattle.locator.proofs.Errors.Last.{roots-below-mono, tries-none, turns-end}
-use Rattle.search.specs.Steps.{Longest, Fits, error-told, polynomial, told, Place-counted, Roots-found, Walked}
+use Rattle.locator.proofs.Errors.Last.{roots-below-mono, tries-left, tries-none, turns-tried, turns-few, turns-all, turns-end}
+use Rattle.search.specs.Planes.{Longest}
+use Rattle.search.specs.Steps.{Fits, Same-values, error-told, polynomial, told, error-written, Place-counted, Roots-found, Walked}
 
 -- the values by as many coefficients as the longest polynomial has are those by a plane's own: the others are 0
-pub same-value :
-    (most planes t p x : ℕ) (rows roots : List ℕ) → x < 256 → p < planes → Fits planes t rows roots → Longest planes roots most →
-    eval (lane p (most + 1) rows) x ≡ eval (polynomial rows roots p) x
-same-value most planes t p x rows roots byte h f m = eval-ext (lane p (most + 1) rows) (polynomial rows roots p) x byte same
+pub same-values : (most planes t : ℕ) (rows roots : List ℕ) → Fits planes t rows roots → Longest planes roots most → Same-values planes (most + 1) rows roots
+unfolding Same-values
+same-values most planes t rows roots f m p x h byte = eval-ext (lane p (most + 1) rows) (polynomial rows roots p) x byte same
   where
     same : (i : ℕ) → getD (lane p (most + 1) rows) i 0 ≡ getD (polynomial rows roots p) i 0
     same i = go (decLt i (most + 1)) (decLt i (getD roots p 0 + 1))
@@ -44,11 +43,11 @@ same-value most planes t p x rows roots byte h f m = eval-ext (lane p (most + 1)
             ∙ sym (List·getD-eq-default (polynomial rows roots p) 0 (omega (arith, lane-length p (getD roots p 0 + 1) rows)))
 
 -- roots are left where not all stand before
-some-left : (many k : ℕ) → eqb (many - k) 0 ≡ true → ltb k many ≡ false
-some-left many k e = le-ltb k many (let q : many - k ≡ 0 = eqb-true (many - k) 0 e in omega arith)
+none-left : (many k : ℕ) → eqb (many - k) 0 ≡ true → ltb k many ≡ false
+none-left many k e = le-ltb k many (let q : many - k ≡ 0 = eqb-true (many - k) 0 e in omega arith)
 
-none-left : (many k : ℕ) → eqb (many - k) 0 ≡ false → ltb k many ≡ true
-none-left many k e = lt-ltb k many (let q : many - k ≡ 0 → ⊥ = eqb-false (many - k) 0 e in omega arith)
+some-left : (many k : ℕ) → eqb (many - k) 0 ≡ false → ltb k many ≡ true
+some-left many k e = lt-ltb k many (let q : many - k ≡ 0 → ⊥ = eqb-false (many - k) 0 e in omega arith)
 
 module _ (many : ℕ) (v : ℕ → ℕ) (j : ℕ) where
   abbrev left : ℕ
@@ -59,16 +58,16 @@ module _ (many : ℕ) (v : ℕ → ℕ) (j : ℕ) where
   turn-more = go (eqb left 0) refl
     where
       go : (b : Bool) → eqb left 0 ≡ b → turns many v j + cond (ltb (roots-below v j) many) 1 0 ≡ turns many v j + cond b 0 1
-      go true e = rw (some-left many (roots-below v j) e) refl
-      go false e = rw (none-left many (roots-below v j) e) refl
+      go true e = rw (none-left many (roots-below v j) e) refl
+      go false e = rw (some-left many (roots-below v j) e) refl
 
   error-tried : (e : ℕ) → error-told left (v j) e ≡ cond (tries many v j) (cond (eqb (v j) 0) e 0) 0
   unfolding error-told tries
   error-tried e = go (eqb left 0) refl
     where
       go : (b : Bool) → eqb left 0 ≡ b → cond b 0 (cond (eqb (v j) 0) e 0) ≡ cond (ltb (roots-below v j) many) (cond (eqb (v j) 0) e 0) 0
-      go true q = rw (some-left many (roots-below v j) q) refl
-      go false q = rw (none-left many (roots-below v j) q) refl
+      go true q = rw (none-left many (roots-below v j) q) refl
+      go false q = rw (some-left many (roots-below v j) q) refl
 
 error-told-lt : (l v e : ℕ) → e < 256 → error-told l v e < 256
 unfolding error-told
@@ -123,9 +122,7 @@ module _ (j planes x : ℕ) (s : Settings) (rows sums roots values left left-now
 
   error-next :
       (p : ℕ) → p < planes →
-      getD weighted-now (in-row j p) 0
-      ≡ cond (tries (getD roots p 0) (v p) j)
-      (cond (eqb (v p j) 0) (told rows sums roots p (power 2 (place-exponent (s .n) (check-count s) j))) 0) 0
+      getD weighted-now (in-row j p) 0 ≡ error-written s rows sums roots j p
   error-next p h =
       u .errors .new p h
       ∙ ap₂ (λ (a b : ℕ). error-told a b (told rows sums roots p x)) (w .left-at p h) (here p h)
@@ -159,10 +156,7 @@ module _ (j planes x : ℕ) (s : Settings) (rows sums roots values left left-now
       })
     where
       error :
-          (i p : ℕ) → i < suc j → p < planes → Dec (i ≡ j) →
-          getD weighted-now (in-row i p) 0
-          ≡ cond (tries (getD roots p 0) (v p) i)
-          (cond (eqb (v p i) 0) (told rows sums roots p (power 2 (place-exponent (s .n) (check-count s) i))) 0) 0
+          (i p : ℕ) → i < suc j → p < planes → Dec (i ≡ j) → getD weighted-now (in-row i p) 0 ≡ error-written s rows sums roots i p
       error i p h k (yes e) = rw e (error-next p k)
       error i p h k (no e) = u .errors .before _ (omega arith) ∙ w .error-at i p (omega arith) k
 
@@ -175,7 +169,7 @@ module _ (j planes x : ℕ) (s : Settings) (rows sums roots values left left-now
       other i p h k (no a) = u .errors .after _ (omega arith) ∙ w .others i p h k
 
 -- no root is left in any plane: nothing more is found up to the last place
-pub walked-early :
+walked-early :
     (j places planes : ℕ) (s : Settings) (rows sums roots left tried weighted : List ℕ) → j ≤ places → planes ≤ value-room → all-zero left ≡ true →
     Walked j planes s rows sums roots left tried weighted → Walked places planes s rows sums roots left tried weighted
 walked-early j places planes s rows sums roots left tried weighted l small z w =
@@ -199,18 +193,43 @@ walked-early j places planes s rows sums roots left tried weighted l small z w =
     found p h = omega (arith, w .left-at p h, zero-at left z p)
 
     error :
-        (i p : ℕ) → p < planes → Dec (i < j) →
-        getD weighted (in-row i p) 0
-        ≡ cond (tries (getD roots p 0) (v p) i)
-        (cond (eqb (v p i) 0) (told rows sums roots p (power 2 (place-exponent (s .n) (check-count s) i))) 0) 0
+        (i p : ℕ) → p < planes → Dec (i < j) → getD weighted (in-row i p) 0 ≡ error-written s rows sums roots i p
     error i p h (yes a) = w .error-at i p a h
     error i p h (no a) =
         w .ahead i p (omega arith) (omega arith)
         ∙ sym (ap (λ (b : Bool). cond b (cond (eqb (v p i) 0) (told rows sums roots p (power 2 (place-exponent (s .n) (check-count s) i))) 0) 0)
         (tries-none (getD roots p 0) (v p) i (omega (arith, found p h, roots-below-mono (v p) j i (omega arith)))))
 
-pub walked-whole :
-    {j places planes : ℕ} {s : Settings} {rows sums roots left tried weighted : List ℕ} → j ≡ places → Walked j planes s rows sums roots left tried weighted →
-    Walked places planes s rows sums roots left tried weighted
-walked-whole {j} {places} {planes} {s} {rows} {sums} {roots} {left} {tried} {weighted} e w =
-    subst (λ (k : ℕ). Walked k planes s rows sums roots left tried weighted) e w
+-- the walk ends there or at the last place
+pub walked-end :
+    (j places end planes : ℕ) (s : Settings) (rows sums roots left tried weighted : List ℕ) → j ≤ places → planes ≤ value-room →
+    end ≡ cond (all-zero left) j places → end ≤ j → Walked j planes s rows sums roots left tried weighted → Walked places planes s rows sums roots left tried weighted
+walked-end j places end planes s rows sums roots left tried weighted l small e over w = go (all-zero left) refl e
+  where
+    go : (b : Bool) → all-zero left ≡ b → end ≡ cond b j places → Walked places planes s rows sums roots left tried weighted
+    go true z f = walked-early j places planes s rows sums roots left tried weighted l small z w
+    go false z f = subst (λ (k : ℕ). Walked k planes s rows sums roots left tried weighted) (let q : j ≡ places = omega arith in q) w
+
+-- the walk goes on while a plane has a root left, which has tried every place so far
+pub ended-none : (planes : ℕ) (s : Settings) (rows sums roots left tried weighted : List ℕ) → Walked 0 planes s rows sums roots left tried weighted → Longest planes tried 0
+unfolding turns
+ended-none planes s rows sums roots left tried weighted w = record { above = λ p h. omega (arith, w .tried-at p h); least = λ k h. omega arith }
+
+pub ended-more :
+    (j planes : ℕ) (s : Settings) (rows sums roots left left-now tried tried-now weighted weighted-now : List ℕ) → all-zero left ≡ false →
+    Walked j planes s rows sums roots left tried weighted → Walked (j + 1) planes s rows sums roots left-now tried-now weighted-now → Longest planes tried-now (j + 1)
+ended-more j planes s rows sums roots left left-now tried tried-now weighted weighted-now some w now =
+    let (p, inside, lacks) = some-not-zero left some in
+    record {
+      above = λ q h. omega (arith, now .tried-at q h, turns-few (getD roots q 0) (v q) (j + 1));
+      least = λ k h. last p lacks k h (decLt p planes);
+    }
+  where
+    v : ℕ → ℕ → ℕ
+    v p = at-place s (polynomial rows roots p)
+
+    last : (p : ℕ) → (getD left p 0 ≡ 0 → ⊥) → (k : ℕ) → ((q : ℕ) → q < planes → getD tried-now q 0 ≤ k) → Dec (p < planes) → j + 1 ≤ k
+    last p lacks k h (no l) = absurd (lacks (w .rest p (omega arith) .0))
+    last p lacks k h (yes l) =
+        let left-over : roots-below (v p) j < getD roots p 0 = omega (arith, w .left-at p l, lacks) in
+        omega (arith, h p l, now .tried-at p l, ap (turns (getD roots p 0) (v p)) (add-one j), turns-tried (getD roots p 0) (v p) j (tries-left (getD roots p 0) (v p) j left-over), turns-all (getD roots p 0) (v p) j left-over)

@@ -10,6 +10,7 @@ use Rattle.field.specs.Field.{power}
 use Rattle.lanes.specs.Lanes.{row-width, in-row, lane}
 use Rattle.code.specs.Size.{value-room, place-rows, locator-rows}
 use Rattle.code.specs.Settings.{Settings, check-count}
+use Rattle.code.specs.Polynomial.{eval}
 use Rattle.locator.specs.Locator.{massey, value}
 use Rattle.locator.specs.Errors.{place-exponent}
 use Rattle.locator.specs.Held.{Holds}
@@ -44,11 +45,6 @@ pub record Sought-all (planes count t : ℕ) (sums roots rows : List ℕ) : Type
   pub coefficient : (p m : ℕ) → p < planes → getD rows (in-row m p) 0 ≡ getD (sought t (massey (plane-sums p count sums) count)) m 0
   pub others : (p : ℕ) → planes ≤ p → getD roots p 0 ≡ 0
 
--- the least number that none of the first numbers is above
-pub record Longest (many : ℕ) (sizes : List ℕ) (most : ℕ) : Type 0 where
-  pub above : (p : ℕ) → p < many → getD sizes p 0 ≤ most
-  pub least : (k : ℕ) → ((p : ℕ) → p < many → getD sizes p 0 ≤ k) → most ≤ k
-
 -- no plane looks for more than t roots or has coefficients past them, and the other planes look for none
 pub record Fits (planes t : ℕ) (rows roots : List ℕ) : Type 0 where
   pub many : length roots ≡ value-room
@@ -63,6 +59,10 @@ error-told l v e = cond (eqb l 0) 0 (cond (eqb v 0) e 0)
 -- the polynomial of plane p, as long as it has roots to find
 abbrev pub polynomial : (rows roots : List ℕ) → (p : ℕ) → List ℕ
 polynomial rows roots p = lane p (getD roots p 0 + 1) rows
+
+-- so many coefficients give every polynomial its own values: those past it are 0
+unfoldable pub Same-values : (planes many : ℕ) → (rows roots : List ℕ) → Type 0
+Same-values planes many rows roots = (p x : ℕ) → p < planes → x < 256 → eval (lane p many rows) x ≡ eval (polynomial rows roots p) x
 
 -- what its sums and its polynomial tell of a place
 abbrev pub told : (rows sums roots : List ℕ) → (p x : ℕ) → ℕ
@@ -83,6 +83,12 @@ pub record Roots-found (planes x at : ℕ) (rows sums roots values left left-now
   pub fewer : Written 0 planes (λ p. getD left p 0 - cond (eqb (getD values (at + p) 0) 0) 1 0) left left-now
   pub errors : Written at planes (λ p. error-told (getD left p 0) (getD values (at + p) 0) (told rows sums roots p x)) weighted weighted-now
 
+-- the error that the walk writes at place j of plane p: what is told there, where the place is tried and a root
+abbrev pub error-written : Settings → (rows sums roots : List ℕ) → (j p : ℕ) → ℕ
+error-written s rows sums roots j p =
+    cond (tries (getD roots p 0) (at-place s (polynomial rows roots p)) j)
+    (cond (eqb (at-place s (polynomial rows roots p) j) 0) (told rows sums roots p (power 2 (place-exponent (s .n) (check-count s) j))) 0) 0
+
 -- the walk through the first places: each plane's roots left, its turns and its errors; zeros ahead and for the other planes
 pub record Walked (done planes : ℕ) (s : Settings) (rows sums roots left tried weighted : List ℕ) : Type 0 where
   pub left-long : length left ≡ value-room
@@ -91,11 +97,7 @@ pub record Walked (done planes : ℕ) (s : Settings) (rows sums roots left tried
   pub bytes : (i : ℕ) → getD weighted i 0 < 256
   pub left-at : (p : ℕ) → p < planes → getD left p 0 ≡ getD roots p 0 - roots-below (at-place s (polynomial rows roots p)) done
   pub tried-at : (p : ℕ) → p < planes → getD tried p 0 ≡ turns (getD roots p 0) (at-place s (polynomial rows roots p)) done
-  pub error-at :
-      (j p : ℕ) → j < done → p < planes →
-      getD weighted (in-row j p) 0
-      ≡ cond (tries (getD roots p 0) (at-place s (polynomial rows roots p)) j)
-      (cond (eqb (at-place s (polynomial rows roots p) j) 0) (told rows sums roots p (power 2 (place-exponent (s .n) (check-count s) j))) 0) 0
+  pub error-at : (j p : ℕ) → j < done → p < planes → getD weighted (in-row j p) 0 ≡ error-written s rows sums roots j p
   pub ahead : (j p : ℕ) → done ≤ j → p < row-width → getD weighted (in-row j p) 0 ≡ 0
   pub others : (j p : ℕ) → planes ≤ p → p < row-width → getD weighted (in-row j p) 0 ≡ 0
   pub rest : (p : ℕ) → planes ≤ p → (getD left p 0 ≡ 0) × (getD tried p 0 ≡ 0)

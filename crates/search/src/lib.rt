@@ -14,11 +14,13 @@ use code::sizes::PLACE_ROWS;
 use code::sizes::VALUE_ROOM;
 
 // What the search found. For each plane: how many of the roots looked for are left, none where a codeword is near, and how many places
-// were tried. And in rows, one for each place, the weighted errors of the planes that have none left.
+// were tried. In rows, one for each place, the weighted errors of the planes that have none left. And how many turns it took: as many as
+// the plane that tried most.
 pub struct Errors {
     pub left: [u8; VALUE_ROOM],
     pub tried: [u8; VALUE_ROOM],
     pub weighted: [u8; PLACE_ROWS],
+    pub turns: usize,
 }
 
 // The errors of all planes at their places, columns 1 to n and then checks 1 to 2t, by the difference of check values.
@@ -32,7 +34,7 @@ pub fn decode(
 ) -> Errors
     requires { ⌜ Powers (now powers) × Logarithms (now logarithms) ⌝ }
     requires { ⌜ (settings-refusal (settings n t planes) ≡ 0) × (1 ≤ t) × (planes ≤ row-width) × (length (now difference) ≡ check-rows) ⌝ }
-    ensures { λ r. ⌜ Decoded planes (settings n t planes) (now (difference .entry)) (r .left) (r .tried) (r .weighted) ⌝ }
+    ensures { λ r. ⌜ Decoded planes (settings n t planes) (now (difference .entry)) (r .left) (r .tried) (r .weighted) (r .turns) ⌝ }
 {
     let count = 2 * t;
     let sums = sums::rows::syndromes(powers, logarithms, difference, count);

@@ -8,19 +8,23 @@ ghost use mathlib.Core.Bool.{cond};
 ghost use Prim.Native.Nat.{ℕ, _+_, _*_, _-_, _≤_, _<_};
 ghost use lib.Dec.{eqb};
 ghost use lib.ListN.{length, getD};
+ghost use Rattle.arrays.specs.Array.{all-zero};
 ghost use Rattle.field.specs.Table.{Powers, Logarithms};
 ghost use Rattle.lanes.specs.Lanes.{row-width, in-row, lane};
 ghost use Rattle.code.specs.Size.{most-columns, most-bad, value-room, locator-rows, check-rows};
 ghost use Rattle.code.specs.Settings.{settings};
 ghost use Rattle.locator.specs.Locator.{value};
-ghost use Rattle.search.specs.Steps.{Longest, error-told, Place-counted, Has-root-as, Roots-found, Fits, Walked};
+ghost use Rattle.sums.specs.Places.{Coefficient-tables};
+ghost use Rattle.search.specs.Planes.{Longest, Ended};
+ghost use Rattle.search.specs.Steps.{error-told, Place-counted, Has-root-as, Roots-found, Fits, Same-values, Walked};
 use crate::Errors;
 use code::sizes::PLACE_ROWS;
 use code::sizes::VALUE_ROOM;
 use lanes::ROW_WIDTH;
 use locator::berlekamp::error_at;
-use sums::places::coefficient_tables;
+use sums::places::LOCATOR_TABLES;
 use sums::places::place_exponent;
+use sums::places::put_all_tables;
 use sums::places::put_values;
 
 // The largest of the first numbers.
@@ -150,10 +154,23 @@ fn find_roots(
     }
 }
 
-// The walk for the roots of the polynomials in rows.
-pub fn walk(
+// Where the walk ends: here, where no plane has a root left, or else behind the last place.
+fn end_of(left: &[u8], j: usize, places: usize) -> usize
+    ensures { λ r. ⌜ r ≡ cond (all-zero (now (left .entry))) j places ⌝ }
+{
+    if arrays::is_zero(left) {
+        return j;
+    }
+    places
+}
+
+// The places tried one after the other. Each has a row of its own for its values, which the compiler then adds up as a whole; one row
+// for all places it would take apart into bytes.
+fn try_places(
     powers: &[u8; 255],
     logarithms: &[u8; 256],
+    tables: &[u8],
+    many: usize,
     rows: &[u8],
     sums: &[u8],
     roots: [u8; VALUE_ROOM],
@@ -163,28 +180,21 @@ pub fn walk(
 ) -> Errors
     requires { ⌜ Powers (now powers) × Logarithms (now logarithms) ⌝ }
     requires { ⌜ (n ≤ most-columns) × (t ≤ most-bad) × (planes ≤ value-room) × (length (now rows) ≡ locator-rows) × (length (now sums) ≡ check-rows) ⌝ }
-    requires { ⌜ Fits planes t (now rows) roots ⌝ }
-    ensures { λ r. ⌜ Walked (n + 2 * t) planes (settings n t planes) (now (rows .entry)) (now (sums .entry)) roots (r .left) (r .tried) (r .weighted) ⌝ }
+    requires { ⌜ (1 ≤ many) × (many ≤ most-bad + 1) × Coefficient-tables many (now rows) (now tables) ⌝ }
+    requires { ⌜ Fits planes t (now rows) roots × Same-values planes many (now rows) roots ⌝ }
+    ensures { λ r. ⌜ Walked (n + 2 * t) planes (settings n t planes) (now (rows .entry)) (now (sums .entry)) roots (r .left) (r .tried) (r .weighted) × Ended planes (n + 2 * t) (r .tried) (r .weighted) (r .turns) ⌝ }
 {
-    let count = 2 * t;
-    let many = longest(roots, planes) + 1;
-    let tables = coefficient_tables(rows, many);
+    let places = n + 2 * t;
     let mut values = [0u8; PLACE_ROWS];
     let mut left = roots;
     let mut tried = [0u8; VALUE_ROOM];
     let mut weighted = [0u8; PLACE_ROWS];
     let mut j = 0;
-    while j < n + count {
-        if arrays::is_zero(&left) {
-            return Errors {
-                left,
-                tried,
-                weighted,
-            };
-        }
-        let exponent = place_exponent(n, count, j);
+    let mut end = end_of(&left, 0, places);
+    while j < end {
+        let exponent = place_exponent(n, 2 * t, j);
         let at = ROW_WIDTH * j;
-        put_values(powers, &tables, rows, many, exponent, &mut values, at);
+        put_values(powers, tables, rows, many, exponent, &mut values, at);
         count_place(&left, &mut tried);
         find_roots(
             powers,
@@ -200,10 +210,45 @@ pub fn walk(
             &mut weighted,
         );
         j += 1;
+        end = end_of(&left, j, places);
     }
     Errors {
         left,
         tried,
         weighted,
+        turns: j,
     }
+}
+
+// The walk for the roots of the polynomials in rows.
+pub fn walk(
+    powers: &[u8; 255],
+    logarithms: &[u8; 256],
+    rows: &[u8],
+    sums: &[u8],
+    roots: [u8; VALUE_ROOM],
+    n: usize,
+    t: usize,
+    planes: usize,
+) -> Errors
+    requires { ⌜ Powers (now powers) × Logarithms (now logarithms) ⌝ }
+    requires { ⌜ (n ≤ most-columns) × (t ≤ most-bad) × (planes ≤ value-room) × (length (now rows) ≡ locator-rows) × (length (now sums) ≡ check-rows) ⌝ }
+    requires { ⌜ Fits planes t (now rows) roots ⌝ }
+    ensures { λ r. ⌜ Walked (n + 2 * t) planes (settings n t planes) (now (rows .entry)) (now (sums .entry)) roots (r .left) (r .tried) (r .weighted) × Ended planes (n + 2 * t) (r .tried) (r .weighted) (r .turns) ⌝ }
+{
+    let many = longest(roots, planes) + 1;
+    let mut tables = [0u8; LOCATOR_TABLES];
+    put_all_tables(rows, many, &mut tables);
+    try_places(
+        powers,
+        logarithms,
+        &tables,
+        many,
+        rows,
+        sums,
+        roots,
+        n,
+        t,
+        planes,
+    )
 }

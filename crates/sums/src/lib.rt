@@ -1,3 +1,3 @@
-// Sums over rows of byte planes, and values at all places.
+// Sums over rows of byte planes, and the values of their polynomials at a place.
 pub mod places;
 pub mod rows;

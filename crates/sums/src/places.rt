@@ -11,7 +11,7 @@ ghost use Rattle.code.specs.Size.{most-columns, most-checks, most-bad};
 ghost use Rattle.lanes.specs.Lanes.{row-width, lane};
 ghost use Rattle.code.specs.Polynomial.{eval, first-exponent};
 ghost use Rattle.locator.specs.Errors.{place-exponent};
-ghost use Rattle.sums.specs.Places.{Coefficient-tables};
+ghost use Rattle.sums.specs.Places.{locator-tables, Coefficient-tables};
 use code::sizes::MOST_BAD;
 use lanes::ROW_WIDTH;
 use lanes::TABLE_ROOM;
@@ -20,7 +20,7 @@ use lanes::TABLE_ROOM;
 pub const LOCATOR_TABLES: usize = TABLE_ROOM * (MOST_BAD + 1);
 
 // A step on from an exponent of 2, below 255 again: 2^255 is 1.
-fn step_on(exponent: usize, step: usize) -> usize
+pub fn step_on(exponent: usize, step: usize) -> usize
     requires { ⌜ (exponent < 255) × (step < 255) ⌝ }
     ensures { λ r. ⌜ (r < 255) × (power 2 r ≡ power 2 (exponent + step)) ⌝ }
 {
@@ -65,20 +65,18 @@ pub fn first_logarithm(logarithms: &[u8; 256]) -> usize
     logarithms[roots[0] as usize] as usize
 }
 
-// The tables of each row of coefficients but the first, which goes in as it is: the power 0 of every place is 1.
-pub fn coefficient_tables(coefficients: &[u8], many: usize) -> [u8; LOCATOR_TABLES]
-    requires { ⌜ (1 ≤ many) × (many ≤ most-bad + 1) × (row-width * many ≤ length (now coefficients)) ⌝ }
-    ensures { λ r. ⌜ Coefficient-tables many (now (coefficients .entry)) r ⌝ }
+// Puts the tables of each row of coefficients but the first, which goes in as it is: the power 0 of every place is 1.
+pub fn put_all_tables(coefficients: &[u8], many: usize, tables: &mut [u8])
+    requires { ⌜ (1 ≤ many) × (many ≤ most-bad + 1) × (row-width * many ≤ length (now coefficients)) × (length (now tables) ≡ locator-tables) ⌝ }
+    ensures { λ _. ⌜ Coefficient-tables many (now (coefficients .entry)) (now (tables .exit)) ⌝ }
 {
-    let mut tables = [0u8; LOCATOR_TABLES];
     let mut m = 1;
     while m < many {
         let at = ROW_WIDTH * m;
         let end = at + ROW_WIDTH;
-        lanes::put_tables(&coefficients[at..end], &mut tables, TABLE_ROOM * m);
+        lanes::put_tables(&coefficients[at..end], tables, TABLE_ROOM * m);
         m += 1;
     }
-    tables
 }
 
 // Each plane's polynomial at the place with this exponent, written into the row of bytes from `at` on: the first row of

@@ -3,16 +3,15 @@
 // A row's byte of plane p stands at p, and each row is worked on in all planes at once.
 
 ghost use mathlib.Core.Path.{_≡_};
-ghost use Prim.Native.Nat.{_+_, _*_, _≤_};
+ghost use Prim.Native.Nat.{ℕ, _+_, _*_, _≤_};
 ghost use lib.ListN.{length, getD};
-ghost use Rattle.arrays.specs.Array.{Written};
-ghost use Rattle.field.specs.Field.{plus};
+ghost use Rattle.arrays.specs.Array.{Filled, Written};
+ghost use Rattle.field.specs.Field.{plus, power};
 ghost use Rattle.field.specs.Table.{Powers, Logarithms};
 ghost use Rattle.code.specs.Size.{most-checks, check-rows};
 ghost use Rattle.lanes.specs.Lanes.{row-width, Products-added};
-ghost use Rattle.sums.specs.Rows.{Values-added, Check-sums};
-use crate::places::first_logarithm;
-use crate::places::progression;
+ghost use Rattle.sums.specs.Rows.{Values-added, Root-logarithms, Exponents, Root-exponents, Check-sums};
+use crate::places::step_on;
 use code::sizes::CHECK_ROWS;
 use code::sizes::MOST_CHECKS;
 use lanes::ROW_WIDTH;
@@ -56,7 +55,65 @@ fn add_row(row: &[u8], constants: &[u8], sums: &mut [u8])
     lanes::add_products(row, constants, sums);
 }
 
-// The syndromes of the difference: check c's byte belongs to the power count - 1 - c of each root.
+// The logarithms of the twenty roots, which come from the table that the generator is built of.
+fn root_logarithms(logarithms: &[u8; 256]) -> [u8; MOST_CHECKS]
+    requires { ⌜ Logarithms (now logarithms) ⌝ }
+    ensures { λ r. ⌜ Root-logarithms r ⌝ }
+{
+    let roots = code::roots::roots();
+    let mut of_roots = [0u8; MOST_CHECKS];
+    let mut i = 0;
+    while i < MOST_CHECKS {
+        of_roots[i] = logarithms[roots[i] as usize];
+        i += 1;
+    }
+    of_roots
+}
+
+// The exponents of one power of each root, below 255: 2^255 is 1.
+fn root_exponents(logarithms: &[u8; MOST_CHECKS], exponent: usize) -> [u8; MOST_CHECKS]
+    requires { ⌜ Root-logarithms (now logarithms) × (exponent ≤ most-checks) ⌝ }
+    ensures { λ r. ⌜ Root-exponents exponent r ⌝ }
+{
+    let mut exponents = [0u8; MOST_CHECKS];
+    let mut i = 0;
+    while i < MOST_CHECKS {
+        let logarithm = logarithms[i] as usize;
+        exponents[i] = (logarithm * exponent % 255) as u8;
+        i += 1;
+    }
+    exponents
+}
+
+// From one power of each root to the one below: back by the root's logarithm is on by 255 less it, which takes no remainder.
+fn lower(logarithms: &[u8; MOST_CHECKS], exponents: &mut [u8; MOST_CHECKS])
+    requires { ⌜ Root-logarithms (now logarithms) × Exponents (now exponents) ⌝ }
+    ensures { λ _. ⌜ ((e : ℕ) → Root-exponents (e + 1) (now (exponents .entry)) → Root-exponents e (now (exponents .exit))) ⌝ }
+{
+    let mut i = 0;
+    while i < MOST_CHECKS {
+        let step = 255 - logarithms[i] as usize;
+        exponents[i] = step_on(exponents[i] as usize, step) as u8;
+        i += 1;
+    }
+}
+
+// The power of each root by its exponent.
+fn root_powers(powers: &[u8; 255], exponents: &[u8; MOST_CHECKS]) -> [u8; MOST_CHECKS]
+    requires { ⌜ Powers (now powers) × Exponents (now exponents) ⌝ }
+    ensures { λ r. ⌜ Filled most-checks most-checks (λ i. power 2 (getD (now (exponents .entry)) i 0)) r ⌝ }
+{
+    let mut constants = [0u8; MOST_CHECKS];
+    let mut i = 0;
+    while i < MOST_CHECKS {
+        constants[i] = powers[exponents[i] as usize];
+        i += 1;
+    }
+    constants
+}
+
+// The syndromes of the difference: check c's byte belongs to the power count - 1 - c of each root. The exponents start one
+// power above the first row's and are lowered before each row.
 pub fn syndromes(
     powers: &[u8; 255],
     logarithms: &[u8; 256],
@@ -66,18 +123,13 @@ pub fn syndromes(
     requires { ⌜ Powers (now powers) × Logarithms (now logarithms) × (count ≤ most-checks) × (row-width * count ≤ length (now difference)) ⌝ }
     ensures { λ r. ⌜ Check-sums count count (now (difference .entry)) r ⌝ }
 {
-    let first = first_logarithm(logarithms);
+    let of_roots = root_logarithms(logarithms);
+    let mut exponents = root_exponents(&of_roots, count);
     let mut sums = [0u8; CHECK_ROWS];
     let mut c = 0;
     while c < count {
-        let exponent = count - 1 - c;
-        let mut constants = [0u8; MOST_CHECKS];
-        progression(
-            powers,
-            first * exponent % 255,
-            exponent,
-            &mut constants[..count],
-        );
+        lower(&of_roots, &mut exponents);
+        let constants = root_powers(powers, &exponents);
         let at = ROW_WIDTH * c;
         let end = at + ROW_WIDTH;
         add_row(&difference[at..end], &constants[..count], &mut sums);

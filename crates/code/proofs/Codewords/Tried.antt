@@ -5,11 +5,9 @@ use mathlib.Core.List.{List, [], _∷_, _++_}
 use mathlib.Core.Logic.{inl, inr}
 use Prim.Native.Nat.{ℕ}
 use native.Mathlib.Omega.{arith}
-use lib.ListN.{length}
 use borrow.Author.Tests.{eq-eqb}
-use Rattle.code.specs.Settings.{Settings, settings-refusal, check-count}
 use Rattle.code.specs.Repair.{last-difference, Tried}
-use Rattle.code.specs.Promise.{One-near}
+use Rattle.code.specs.Promise.{One-near, One-tried}
 use Rattle.code.proofs.Codewords.Near.{one-near}
 
 pub last-difference-self : (bs : List ℕ) → last-difference bs bs ≡ 0
@@ -17,10 +15,8 @@ unfolding last-difference
 last-difference-self [] = refl
 last-difference-self (b ∷ bs) = rw (last-difference-self bs, eq-eqb b b refl) refl
 
-pub tried-one :
-    (s : Settings) (bs cs : List ℕ) (k l : ℕ) → settings-refusal s ≡ 0 → length bs ≡ s .n → length cs ≡ check-count s → Tried s bs cs k → Tried s bs cs l →
-    k ≡ l
-unfolding Tried One-near
+pub tried-one : One-tried
+unfolding One-tried Tried One-near
 tried-one s bs cs k l fine e f (inl (us, ds, near, p)) (inl (xs, ys, other, q)) =
     let one = one-near s bs cs us ds xs ys fine e f near other in p ∙ ap₂ (λ (u d : List ℕ). last-difference (bs ++ cs) (u ++ d)) (one .0) (one .1) ∙ sym q
 tried-one s bs cs k l fine e f (inl (us, ds, near, p)) (inr (none, q)) = absurd (none us ds near)

@@ -18,7 +18,7 @@ use Rattle.code.specs.Settings.{Settings, settings-refusal, check-count,
 use Rattle.code.specs.Plane.{is-codeword, byte-list, differ}
 use Rattle.code.specs.Vector.{plane, each-long, is-vector, are-checks, planes-from, has-checks, same, differ-values}
 use Rattle.code.specs.Repair.{Repaired, changed-places, No-repair, Tried-planes}
-use Rattle.code.specs.Promise.{One-near, One-repair, Repairs}
+use Rattle.code.specs.Promise.{One-near, One-tried, One-repair, Repairs}
 use Rattle.arrays.proofs.Bytes.{Bytes, byte-at}
 use Rattle.code.proofs.Tests.{bytes-of, bytes-back, all-from, all-below-at, all-below-back}
 use Rattle.code.proofs.Codewords.Near.{differ-self, one-near, plane-unique}
@@ -204,6 +204,7 @@ repaired-or-none s vs cs us ds a b = b .none-near (plane (b .at-plane) us) (plan
 pub tried-planes-one :
     (s : Settings) (vs cs : List (List ℕ)) (k l : List ℕ) → settings-refusal s ≡ 0 → length vs ≡ s .n → length cs ≡ check-count s → Tried-planes s vs cs k →
     Tried-planes s vs cs l → k ≡ l
+unfolding One-tried
 tried-planes-one s vs cs k l fine e f a b = ext-getD 0 k l (a .long ∙ sym (b .long)) (λ p h. at p (decLt p (value-size s)))
   where
     at : (p : ℕ) → Dec (p < value-size s) → getD k p 0 ≡ getD l p 0

@@ -4,7 +4,7 @@
 use mathlib.Core.Path.{_≡_, refl, sym, _∙_, ap, ap₂}
 use mathlib.Core.Bool.{Bool, true, false, _&&_, _||_, not}
 use mathlib.Core.List.{List}
-use Prim.Native.Nat.{ℕ, zero, suc, _+_, _-_, _≤_}
+use Prim.Native.Nat.{ℕ, zero, suc, _+_, _-_, _≤_, _<_}
 use native.Mathlib.Omega.{arith}
 use lib.Dec.{eqb, ltb}
 use lib.ListN.{length, replicate, length-replicate}
@@ -12,6 +12,7 @@ use borrow.Author.Tests.{eqb-true, eqb-false, ltb-true, not-true}
 use Rattle.arrays.proofs.Zeros.{zeros-at}
 use Rattle.arrays.proofs.Bool.{and-split, true-not-false}
 use Rattle.field.specs.Field.{plus, xor-from}
+use Rattle.field.proofs.Xor.{plus-lt}
 use Rattle.field.proofs.Times.{zero-times}
 use Rattle.field.proofs.Power.{doublings, power-doublings}
 use Rattle.code.specs.Settings.{Settings, settings-refusal, check-count, value-size}
@@ -19,10 +20,13 @@ use Rattle.code.specs.Plane.{syndrome, byte-list}
 use Rattle.code.specs.Vector.{plane}
 use Rattle.code.specs.Repair.{Near, No-repair}
 use Rattle.code.proofs.Tests.{bytes-of, all-from, all-below-at}
+use Rattle.code.proofs.Codewords.PowerSum.{power-sum}
 use Rattle.code.proofs.Codewords.Word.{Shape}
 use Rattle.code.proofs.Codewords.Quick.{quick-summed, summed-quick}
 use Rattle.locator.specs.Locator.{massey, value}
-use Rattle.locator.specs.Errors.{error-sum, Located, Explained, place-exponent}
+use Rattle.locator.specs.Errors.{place-exponent}
+use Rattle.locator.proofs.Errors.Places.{placed}
+use Rattle.locator.proofs.Errors.Explained.{Located, Explained}
 use Rattle.locator.proofs.Decoding.Complete.{near-explained}
 use Rattle.grading.specs.Value.{Vector}
 
@@ -33,6 +37,10 @@ quick-sum s bs cs i = plus (quick-summed i 254 bs) (quick-summed i (check-count 
 sum-quick : (s : Settings) (bs cs : List ℕ) (i : ℕ) → quick-sum s bs cs i ≡ syndrome s i bs cs
 unfolding quick-sum syndrome
 sum-quick s bs cs i = sym (ap₂ plus (summed-quick i 254 bs) (summed-quick i (check-count s - 1) cs))
+
+sum-byte : (s : Settings) (bs cs : List ℕ) (i : ℕ) → quick-sum s bs cs i < 256
+unfolding quick-sum
+sum-byte s bs cs i = plus-lt _ _
 
 -- no error told at a place
 unfoldable pub right-at : Settings → (S : ℕ → ℕ) → (locator : List ℕ) → (j : ℕ) → Bool
@@ -45,8 +53,8 @@ plane-none s bs cs =
     && ((ltb 0 (check-count s) && not (eqb (plus (quick-sum s bs cs 0) 0) 0))
     && all-from (s .n + check-count s) 0 (right-at s (quick-sum s bs cs) (massey (quick-sum s bs cs) (check-count s) .locator)))
 
-no-sum : (s : Settings) (i j k : ℕ) → error-sum s i j (replicate k 0) ≡ 0
-unfolding error-sum plus xor-from
+no-sum : (s : Settings) (i j k : ℕ) → power-sum i (placed s j (replicate k 0)) ≡ 0
+unfolding power-sum placed plus xor-from
 no-sum s i j zero = refl
 no-sum s i j (suc k) = ap₂ plus (zero-times _) (no-sum s i (suc j) k)
 
@@ -96,7 +104,7 @@ none-near s bs cs us ds fine e near =
         }
 
     explained : Explained s (quick-sum s bs cs) (replicate many 0)
-    explained = near-explained s bs cs us ds (quick-sum s bs cs) fine shape (λ i h. sum-quick s bs cs i) near (replicate many 0) located
+    explained = near-explained s bs cs us ds (quick-sum s bs cs) fine shape (λ i h. sum-quick s bs cs i) near (sum-byte s bs cs) (replicate many 0) located
 
 -- a vector one of whose planes has none
 unfoldable pub none-from : (left p : ℕ) → Settings → (vs cs : Vector) → Bool

@@ -1,13 +1,13 @@
 -- Where a codeword is near, the decoder finds it. The places in which the codeword and the word differ have the syndromes for
--- power sums, and at most t of them are wrong. So the locator has at most t roots to tell, all of them among the places, its
--- values are the weighted errors at all places, and these explain the syndromes. Assumes nothing.
-use mathlib.Core.Path.{_≡_, sym, _∙_, ap, ap₂}
+-- power sums, and at most t of them are wrong. So the locator has at most t roots to tell, all of them among the places, and the errors
+-- that it tells explain the syndromes. Assumes nothing.
+use mathlib.Core.Path.{_≡_, sym, _∙_, ap}
 use mathlib.Core.List.{List}
 use Prim.Native.Nat.{ℕ, _+_, _<_, _≤_}
 use native.Mathlib.Omega.{arith}
 use lib.ListN.{length, getD}
 use Rattle.field.specs.Field.{plus, power}
-use Rattle.field.proofs.Xor.{plus-self, plus-zero}
+use Rattle.field.proofs.Xor.{plus-zero}
 use Rattle.field.proofs.Logarithm.{no-zero-divisors}
 use Rattle.code.specs.Settings.{Settings, settings-refusal, check-count}
 use Rattle.code.specs.Polynomial.{eval}
@@ -19,15 +19,15 @@ use Rattle.code.proofs.Polynomials.Arithmetic.{eval-lt}
 use Rattle.code.proofs.ValidSettings.{sizes}
 use Rattle.code.proofs.Codewords.Word.{Shape, Word, word-of, word-errors, word-errors-bytes, word-errors-count, word-errors-different, word-errors-sum}
 use Rattle.code.proofs.Codewords.Linear.{syndrome-lt}
-use Rattle.locator.specs.Locator.{massey, value}
-use Rattle.locator.specs.Errors.{place-exponent, Located, Explained}
+use Rattle.locator.specs.Locator.{massey}
+use Rattle.locator.specs.Errors.{place-exponent}
 use Rattle.locator.specs.Search.{at-place, roots-below}
-use Rattle.locator.proofs.Locator.Shape.{massey-shape}
 use Rattle.locator.proofs.Locator.Size.{size-le-nonzero, roots-all}
-use Rattle.locator.proofs.Locator.Roots.{in-at, bytes-in, zero-in, value-at-place}
-use Rattle.locator.proofs.Errors.Places.{placed, placed-sum, placed-nonzero, word-errors-length, word-errors-power, placed-word-errors}
+use Rattle.locator.proofs.Locator.Roots.{in-at, bytes-in, zero-in}
+use Rattle.locator.proofs.Errors.Places.{word-errors-length, word-errors-power}
+use Rattle.locator.proofs.Errors.Explained.{Located, Explained}
 use Rattle.locator.proofs.Errors.Marks.{nonzero-le-roots}
-use Rattle.locator.proofs.Decoding.Counted.{few-roots-below}
+use Rattle.locator.proofs.Decoding.Counted.{few-roots-below, counted-explained}
 
 module _ (s : Settings) (bs cs us ds : List ℕ) (S : ℕ → ℕ) (r : settings-refusal s ≡ 0) (v : Shape s bs cs) (same : (i : ℕ) → i < check-count s → S i ≡ syndrome s i bs cs) (near : Near s bs cs us ds) where
   word : Word s us ds
@@ -96,24 +96,6 @@ module _ (s : Settings) (bs cs us ds : List ℕ) (S : ℕ → ℕ) (r : settings
         ap (roots-below v) all,
       )
 
-  value-is : (p : Place) (j : ℕ) → j < length places → value S (massey S (check-count s) .locator) (getD places j p .x) ≡ getD places j p .y
-  value-is p j h =
-      value-at-place S (check-count s) places bytes different sums (massey S (check-count s) .locator) roots (getD places j p) (in-at places j p h)
-      (massey S (check-count s) .size) (massey-shape S (check-count s) .monic) (massey-shape S (check-count s) .below) size-low
-
-  -- the errors that it tells are those of the codeword
-  module _ (ys : List ℕ) (located : Located s S ys) where
-    all-right : placed s 0 ys ≡ places
-    unfolding places
-    all-right =
-        placed-word-errors s bs cs us ds (sizes s r) v (word .shape) none ys (located .many)
-        (λ j h.
-        located .each j h ∙ ap (value S (massey S (check-count s) .locator)) (sym (places-power j h))
-        ∙ value-is none j (rw places-length h))
-
-    pub near-explained : Explained s S ys
-    near-explained =
-        record {
-          few = omega (arith, few, placed-nonzero s 0 ys, ap nonzero all-right);
-          sums = λ i h. ap₂ plus (sums i h) (sym (placed-sum s i 0 ys) ∙ ap (power-sum i) all-right) ∙ plus-self _;
-        }
+  -- so the errors that it tells explain the syndromes
+  pub near-explained : ((i : ℕ) → S i < 256) → (ys : List ℕ) → Located s S ys → Explained s S ys
+  near-explained byte ys located = counted-explained s S r byte near-counted ys located near-size

@@ -15,7 +15,7 @@ use Rattle.code.proofs.Codewords.PowerSum.{power-sum}
 use Rattle.code.proofs.Polynomials.Arithmetic.{eval-lt}
 use Rattle.code.proofs.ValidSettings.{sizes}
 use Rattle.locator.specs.Locator.{massey, value}
-use Rattle.locator.specs.Errors.{place-exponent, Located, Explained}
+use Rattle.locator.specs.Errors.{place-exponent}
 use Rattle.locator.specs.Search.{at-place, roots-below}
 use Rattle.locator.proofs.Polynomials.Steps.{value-no-root}
 use Rattle.locator.proofs.Locator.Shape.{State-shape, massey-shape}
@@ -24,7 +24,8 @@ use Rattle.locator.proofs.Locator.Size.{size-le-nonzero}
 use Rattle.locator.proofs.Locator.Roots.{in-at, value-at-place}
 use Rattle.locator.proofs.Locator.Along.{Along, along-length, along-x, along-bytes, along-different, along-zero, along-nonzero, along-full}
 use Rattle.locator.proofs.Locator.Recurrence.{Weights, weights}
-use Rattle.locator.proofs.Errors.Places.{placed, placed-length, placed-at, placed-sum, placed-nonzero, placed-equal}
+use Rattle.locator.proofs.Errors.Places.{placed, placed-length, placed-at, placed-nonzero, placed-equal}
+use Rattle.locator.proofs.Errors.Explained.{Located, Explained}
 use Rattle.locator.proofs.Errors.Marks.{marks, marks-length, marks-root, marked, marked-bytes, marked-different, marked-zero, marked-count, few-marked}
 
 module _ (s : Settings) (S : ℕ → ℕ) (r : settings-refusal s ≡ 0) where
@@ -123,7 +124,7 @@ module _ (s : Settings) (S : ℕ → ℕ) (r : settings-refusal s ≡ 0) where
       counted-explained few =
           record {
             few = omega (arith, few, roots-many, along-nonzero roots places along, placed-nonzero s 0 ys, ap nonzero all-right);
-            sums = λ i h. ap₂ plus (sums i h) (sym (placed-sum s i 0 ys) ∙ ap (power-sum i) all-right) ∙ plus-self _;
+            sums = λ i h. ap₂ plus (sums i h) (ap (power-sum i) all-right) ∙ plus-self _;
           }
 
       -- and at each root there is one

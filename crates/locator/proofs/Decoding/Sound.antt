@@ -17,8 +17,9 @@ use Rattle.code.proofs.Codewords.PowerSum.{power-sum}
 use Rattle.code.proofs.ValidSettings.{sizes}
 use Rattle.code.proofs.Codewords.Word.{Shape, word-back, word-errors, word-errors-sum}
 use Rattle.code.proofs.Codewords.Linear.{syndrome-lt}
-use Rattle.locator.specs.Errors.{mended, wrong-places, Explained, place-exponent}
-use Rattle.locator.proofs.Errors.Places.{place-exponent-column, place-exponent-next, placed, placed-sum, placed-append}
+use Rattle.locator.specs.Errors.{mended, wrong-places, place-exponent}
+use Rattle.locator.proofs.Errors.Places.{place-exponent-column, place-exponent-next, placed, placed-append}
+use Rattle.locator.proofs.Errors.Explained.{Explained}
 use Rattle.locator.proofs.Errors.Totals.{wrong-places-append}
 use Rattle.locator.proofs.Errors.Mended.{mended-length, mended-bytes, mended-differ, mended-errors}
 
@@ -59,7 +60,7 @@ module _ (s : Settings) (bs cs ys : List ℕ) (S : ℕ → ℕ) (r : settings-re
   root i l =
       sym (plus-again (syndrome s i bs cs) (syndrome s i us ds) (syndrome-lt s i us ds))
       ∙ ap₂ plus (sym (same i l))
-      (sym (word-errors-sum s bs cs us ds i (sizes s r) v shape) ∙ ap (power-sum i) places ∙ placed-sum s i 0 ys)
+      (sym (word-errors-sum s bs cs us ds i (sizes s r) v shape) ∙ ap (power-sum i) places)
       ∙ h .sums i l
 
   pub explained-near : Near s bs cs us ds

@@ -53,7 +53,7 @@ pub tries-root : (many : ℕ) (v : ℕ → ℕ) (j places : ℕ) → j < places 
 tries-root many v j places h l e =
     tries-left many v j (omega (arith, roots-below-root v j e, roots-below-mono v (suc j) places (omega arith)))
 
-turns-tried : (many : ℕ) (v : ℕ → ℕ) (k : ℕ) → tries many v k ≡ true → turns many v (suc k) ≡ suc (turns many v k)
+pub turns-tried : (many : ℕ) (v : ℕ → ℕ) (k : ℕ) → tries many v k ≡ true → turns many v (suc k) ≡ suc (turns many v k)
 unfolding turns
 turns-tried many v k e = rw e (omega arith)
 

@@ -1,6 +1,5 @@
--- The places of a plane by their number: n columns, then 2t checks. Weighted errors by number are a list of places, with the
--- power sums and the count that the definitions give them; and the places of two words have the same powers of 2 by number, so
--- that the two lists are equal where their weights are. Assumes nothing.
+-- The places of a plane by their number: n columns, then 2t checks. Weighted errors by number are a list of places, with the count
+-- that the definition gives them; and the places of two words have the same powers of 2 by number. Assumes nothing.
 use mathlib.Core.Path.{_≡_, refl, sym, _∙_, ap, ap₂}
 use mathlib.Core.List.{List, [], _∷_, _++_}
 use Prim.Native.Nat.{ℕ, zero, suc, _+_, _-_, _<_, _≤_}
@@ -9,14 +8,13 @@ use native.Mathlib.Decide.{decLt}
 use lib.ListN.{length, getD, length-append, List·getD-append}
 use lib.Seq.{getD-append-add, ext-getD}
 use borrow.Author.Tests.{lt-ltb, le-ltb}
-use Rattle.field.specs.Field.{plus, power}
+use Rattle.field.specs.Field.{power}
 use Rattle.code.specs.Settings.{Settings, check-count}
 use Rattle.code.proofs.Codewords.Place.{Place, nonzero}
-use Rattle.code.proofs.Codewords.PowerSum.{power-sum}
 use Rattle.code.proofs.Codewords.Errors.{errors}
 use Rattle.code.proofs.ValidSettings.{Sizes}
 use Rattle.code.proofs.Codewords.Word.{Shape, word-errors}
-use Rattle.locator.specs.Errors.{place-exponent, wrong-places, error-sum}
+use Rattle.locator.specs.Errors.{place-exponent, wrong-places}
 
 -- columns and checks
 pub place-exponent-column : (n checks j : ℕ) → j < n → place-exponent n checks j ≡ 254 - j
@@ -43,11 +41,6 @@ by-place s P f g j h = go (decLt j (s .n))
 unfoldable pub placed : Settings → (j : ℕ) → (weighted : List ℕ) → List Place
 placed s j [] = []
 placed s j (y ∷ ys) = record { x = power 2 (place-exponent (s .n) (check-count s) j); y = y } ∷ placed s (suc j) ys
-
-pub placed-sum : (s : Settings) (i j : ℕ) (ys : List ℕ) → power-sum i (placed s j ys) ≡ error-sum s i j ys
-unfolding placed power-sum error-sum
-placed-sum s i j [] = refl
-placed-sum s i j (y ∷ ys) = ap (plus _) (placed-sum s i (suc j) ys)
 
 pub placed-nonzero : (s : Settings) (j : ℕ) (ys : List ℕ) → nonzero (placed s j ys) ≡ wrong-places ys
 unfolding placed nonzero wrong-places
@@ -132,10 +125,3 @@ module _ (s : Settings) (bs cs us ds : List ℕ) (z : Sizes s) (v : Shape s bs c
       ∙ ap (λ (q : Place). q .x) (getD-append-add (errors 255 bs us) (errors (check-count s) cs ds) c p)
       ∙ errors-power (check-count s) cs ds c p (omega arith) (v .many-checks ∙ sym (w .many-checks)) (omega arith)
       ∙ ap (power 2) (sym (place-exponent-next (s .n) (check-count s) c)))
-
-  pub placed-word-errors :
-      (p : Place) (ys : List ℕ) → length ys ≡ s .n + check-count s →
-      ((j : ℕ) → j < s .n + check-count s → getD ys j 0 ≡ getD (word-errors s bs cs us ds) j p .y) → placed s 0 ys ≡ word-errors s bs cs us ds
-  placed-word-errors p ys l e =
-      placed-equal s (word-errors s bs cs us ds) p ys (l ∙ sym word-errors-length) (λ j h. word-errors-power p j (rw word-errors-length at h))
-      (λ j h. e j (rw word-errors-length at h))

@@ -8,12 +8,14 @@ use Rattle.arrays.proofs.Zeros.{zero-at}
 use Rattle.arrays.proofs.Front.{copied}
 use Rattle.code.specs.Size.{most-columns, place-rows}
 use Rattle.lanes.specs.Lanes.{row-width}
-use Rattle.code.specs.Settings.{settings, value-size}
+use Rattle.code.specs.Settings.{settings, check-count, value-size}
 use Rattle.code.specs.Entry.{values-in}
 use Rattle.arrays.proofs.Bytes.{Bytes, bytes-every}
 use Rattle.code.proofs.ValidSettings.{sizes, value-in-row}
-use Rattle.repair.specs.Entry.{none-found}
-use Rattle.repair.proofs.Answer.{some-bad, answer-none, answer-found, answer-same}
+use Rattle.repair.specs.Entry.{none-found, Repair-by-as}
+use Rattle.repair.proofs.Difference.Rows.{Checks-apart, some-bad}
+use Rattle.repair.proofs.Answer.{answer-none, answer-found}
+use Rattle.repair.proofs.SameChecks.{answer-same}
 use borrow.Author.Needs.{needs}
 use Rattle.repair.proofs.by_difference.Statement.{statement}
 use Rattle.repair.proofs.by_difference.Tie as tie
@@ -30,15 +32,19 @@ bounds c =
 abbrev start : tie.After-difference → tie.Start
 start d = d .before .before .before .before .before
 
-module _ (d : tie.After-difference) where
-  vector-bytes : Bytes (start d .args .vector .now)
-  vector-bytes = bytes-every (start d .args .vector .now) (λ i. d .before .before .before .before .shared-slice-known .given i .fits)
+vector-bytes : (d : tie.After-difference) → Bytes (start d .args .vector .now)
+vector-bytes d = bytes-every (start d .args .vector .now) (λ i. d .before .before .before .before .shared-slice-known .given i .fits)
 
-  own-bytes : Bytes (start d .args .own .now)
-  own-bytes = bytes-every (start d .args .own .now) (λ i. d .before .before .before .shared-slice-known2 .given i .fits)
-
-  check-bytes : Bytes (start d .args .checks .now)
-  check-bytes = bytes-every (start d .args .checks .now) (λ i. d .before .before .shared-slice-known3 .given i .fits)
+apart-by : (d : tie.After-difference) → let a = start d .args in Checks-apart (a .t) (a .w) (a .own .now) (a .checks .now) (d .difference .result)
+apart-by d =
+    let s = start d in
+    record {
+      own-bytes = bytes-every (s .args .own .now) (λ i. d .before .before .before .shared-slice-known2 .given i .fits);
+      check-bytes = bytes-every (s .args .checks .now) (λ i. d .before .before .shared-slice-known3 .given i .fits);
+      own-long = s .pre .1 .1;
+      checks-long = s .pre .1 .2;
+      added = d .difference .ensures;
+    }
 
 -- the ways back: from the errors to the tables of the field, from these to the difference
 abbrev tables : tie.After-decode → tie.After-logarithms
@@ -60,19 +66,16 @@ copy-requires : tie.Need-copy-requires
 copy-requires c κs = let d = c .before .before .before .before in let l = start d .pre .1 in omega arith
 
 returns : tie.Need-returns
-unfolding values-in settings value-size
+unfolding Repair-by-as values-in settings check-count value-size
 returns c =
     let copied-to = c .before .before .before in
     let zero = copied-to .before .before .before in
     let d = zero .before .before in
     let s = start d in
     let a = s .args in
-    let rows = d .difference in
     rw (c .untried .ensures .0, c .untried .ensures .1, c .untried .ensures .2)
-    (answer-same (a .n) (a .t) (a .w) (a .vector .now) (a .own .now) (a .checks .now) (rows .result) (s .pre .0) (own-bytes d) (check-bytes d)
-    (s .pre .1 .1) (s .pre .1 .2) (rows .ensures) (a .output .now) _
-    (zero-at (rows .result) (sym (zero .is-zero .ensures) ∙ copied-to .before .before .if1 .taken))
-    (s .pre .1 .0) (vector-bytes d) (copied _ (a .vector .now) (a .output .now) _ refl (omega (arith, s .pre .1)) (copied-to .copy .ensures)))
+    (answer-same (a .n) (apart-by d) (zero-at (d .difference .result) (sym (zero .is-zero .ensures) ∙ copied-to .before .before .if1 .taken)) (a .vector .now)
+    (a .output .now) _ (s .pre .1 .0) (vector-bytes d) (copied _ (a .vector .now) (a .output .now) _ refl (omega (arith, s .pre .1)) (copied-to .copy .ensures)))
 
 slice-aggregate-decode : tie.Need-slice-aggregate-decode
 slice-aggregate-decode c = sym (difference-of (c .before .before .before) .difference .ensures .long)
@@ -101,15 +104,13 @@ slice-aggregate-is-zero-2 : tie.Need-slice-aggregate-is-zero-2
 slice-aggregate-is-zero-2 c = let d = c .before .before .before .decode .ensures in omega (arith, d .left-long, d .tried-long)
 
 returns-2 : tie.Need-returns-2
-unfolding values-in settings value-size none-found
+unfolding Repair-by-as values-in settings check-count value-size none-found
 returns-2 c =
     let e = searched (c .before) in
     let d = difference-of (tables e) in
     let s = start d in
     let a = s .args in
-    let rows = d .difference in
-    answer-none (a .n) (a .t) (a .w) (a .vector .now) (a .own .now) (a .checks .now) (rows .result) (s .pre .0) (own-bytes d) (check-bytes d)
-    (s .pre .1 .1) (s .pre .1 .2) (rows .ensures) _ _ _ (e .decode .ensures) (a .output .now) (sym (c .before .is-zero2 .ensures) ∙ not-true _ (c .if2 .taken))
+    answer-none (a .n) (apart-by d) (s .pre .0) _ _ _ _ (e .decode .ensures) (a .vector .now) (a .output .now) (sym (c .before .is-zero2 .ensures) ∙ not-true _ (c .if2 .taken))
 
 -- the errors found, and how many they are
 abbrev found : tie.After-weighted2 → tie.Else2
@@ -137,28 +138,24 @@ applied c = c .before .before .before
 slice-aggregate-count-changed : tie.Need-slice-aggregate-count-changed
 slice-aggregate-count-changed c = sym (found-long (found (applied c .before .before)))
 
-add-count-changed : tie.Need-add-count-changed
-add-count-changed c = let z = bounds (start (difference-of (tables (searched (found (applied c .before .before) .before))))) in omega arith
-
 count-changed-requires : tie.Need-count-changed-requires
+unfolding settings check-count
 count-changed-requires c κs =
     let e = found (applied c .before .before) in
     let z = bounds (start (difference-of (tables (searched (e .before))))) in
-    let long = found-long e in
-    (omega arith, omega arith)
+    let turns = searched (e .before) .decode .ensures .ended .within in
+    (omega (arith, z, turns), omega (arith, z, turns, found-long e))
 
 returns-3 : tie.Need-returns-3
-unfolding values-in settings value-size
+unfolding Repair-by-as values-in settings check-count value-size
 returns-3 c =
     let done = applied (c .before) in
     let e = found (done .before .before) in
     let d = difference-of (tables (searched (e .before))) in
     let s = start d in
     let a = s .args in
-    let rows = d .difference in
-    answer-found (a .n) (a .t) (a .w) (a .vector .now) (a .own .now) (a .checks .now) (rows .result) (s .pre .0) (own-bytes d) (check-bytes d)
-    (s .pre .1 .1) (s .pre .1 .2) (rows .ensures) _ _ _ (bounds s .2) (sym (e .before .is-zero2 .ensures) ∙ not-false _ (e .if2 .left))
-    (searched (e .before) .decode .ensures) _ (a .output .now) _ (c .count-changed .ensures) (done .apply-errors .ensures)
+    answer-found (a .n) (apart-by d) (s .pre .0) _ _ _ _ (bounds s .2) (sym (e .before .is-zero2 .ensures) ∙ not-false _ (e .if2 .left))
+    (searched (e .before) .decode .ensures) _ (a .vector .now) (a .output .now) _ (c .count-changed .ensures) (done .apply-errors .ensures)
 
 pub by-difference-spec : {M : Type 1} → statement M
 by-difference-spec =
@@ -182,7 +179,6 @@ by-difference-spec =
     slice-aggregate-apply-errors
     apply-errors-requires
     slice-aggregate-count-changed
-    add-count-changed
     count-changed-requires
     (λ c. search needs)
     returns-3)

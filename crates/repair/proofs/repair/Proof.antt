@@ -7,11 +7,12 @@ use native.Mathlib.Omega.{arith}
 use lib.ListN.{length, take}
 use lib.Seq.{length-take-le}
 use Rattle.code.specs.Size.{checks-room}
-use Rattle.code.specs.Settings.{settings, settings-refusal}
+use Rattle.code.specs.Settings.{settings, settings-refusal, check-count}
 use Rattle.code.specs.Vector.{has-checks}
 use Rattle.code.specs.Entry.{values-in}
 use Rattle.arrays.proofs.Bytes.{bytes-every}
 use Rattle.code.proofs.ValidSettings.{check-room, sizes}
+use Rattle.repair.specs.Entry.{Repair-as, Repair-by-as}
 use Rattle.repair.specs.Promise.{By-own-checks}
 use Rattle.repair.proofs.Difference.ByOwnChecks.{by-own-checks}
 use Rattle.repair.proofs.Difference.OwnChecks.{own-checks, is-vector-in, are-checks-in}
@@ -56,7 +57,7 @@ by-difference-requires c κs =
     (d .allowed, (d .vector, own ∙ d .checks, d .checks, d .room))
 
 returns-2 : tie.Need-returns-2
-unfolding By-own-checks
+unfolding By-own-checks Repair-as Repair-by-as settings check-count
 returns-2 c =
     let repaired = c .before .before in
     let put = repaired .before .before .before .before in

@@ -52,7 +52,7 @@ returns c =
     let s = summed .before .before in
     let a = s .args in
     decoded (a .planes) (settings (a .n) (a .t) (a .planes)) (a .difference .now) _ _ _ _ _ _ (s .pre .1 .0) (λ i. summed .before .shared-slice-known .given i .fits)
-    (omega arith) (omega arith) (summed .syndromes .ensures) (sought .seek-all .ensures) (c .walk .ensures)
+    (omega arith) (omega arith) (summed .syndromes .ensures) (sought .seek-all .ensures) (c .walk .ensures .0) _ (c .walk .ensures .1)
 
 pub decode-spec : {M : Type 1} → statement M
 decode-spec =

@@ -1,16 +1,17 @@
--- Powers of 2 repeat after 255. So the powers of the roots are 2 to a progression of exponents, and a weight's inverse rises by the
+-- Powers of 2 repeat after 255. So a step back by a root's logarithm is one on to 255 less it, and a weight's inverse rises by the
 -- weight's own exponent from column to column. Assumes nothing.
 use mathlib.Core.Path.{_≡_, sym, _∙_, ap}
 use mathlib.Core.List.{List}
 use Prim.Native.Nat.{ℕ, zero, suc, _+_, _*_, _-_, _%_, _≤_, _<_}
 use native.Mathlib.Omega.{arith}
 use native.Mathlib.Decide.{decLt}
-use native.Mathlib.Nat.{add-mul, mul-suc}
+use native.Mathlib.Nat.{mul-suc}
 use native.Mathlib.Numerals.{add-one}
 use lib.ListN.{getD}
 use Rattle.field.specs.Field.{times, power, inverse}
 use Rattle.field.specs.Table.{Logarithms}
 use Rattle.field.proofs.Power.{power-lt, power-nonzero, power-add, power-mul, power-mod, power-past, powers-differ}
+use Rattle.code.specs.Size.{most-checks}
 use Rattle.code.specs.Polynomial.{first-exponent, root, Roots}
 
 power-rounds : (i k : ℕ) → power 2 (i + 255 * k) ≡ power 2 i
@@ -28,39 +29,53 @@ place-power-next e m i k h q =
     q ∙ sym (power-add i e) ∙ ap (λ (x : ℕ). times x (power 2 e)) (h ∙ power-mul e m) ∙ power-add (e * m) e
     ∙ ap (power 2) (sym (mul-suc e m) ∙ ap (_*_ e) (sym (add-one m))) ∙ sym (power-mul e (m + 1))
 
--- a power of each root, from the first root's on
-pub root-power : (e i : ℕ) → power 2 (first-exponent * e % 255 + i * e) ≡ power (root i) e
+-- a power of a root by its logarithm, and the power below, by a step back
+pub root-power : (i e : ℕ) → power 2 ((first-exponent + i) * e % 255) ≡ power (root i) e
 unfolding root
-root-power e i =
-    sym (power-add (first-exponent * e % 255) (i * e)) ∙ ap (λ (x : ℕ). times x (power 2 (i * e))) (power-mod (first-exponent * e)) ∙ power-add (first-exponent * e) (i * e)
-    ∙ ap (power 2) (sym (add-mul first-exponent i e)) ∙ sym (power-mul (first-exponent + i) e)
+root-power i e = power-mod ((first-exponent + i) * e) ∙ sym (power-mul (first-exponent + i) e)
 
--- the logarithm of the first root
-pub first-logarithm : (logarithms roots : List ℕ) → Logarithms logarithms → Roots roots → getD logarithms (getD roots 0 0) 0 ≡ first-exponent
+pub root-power-below :
+    (i e old new : ℕ) → i < most-checks → power 2 old ≡ power (root i) (e + 1) → power 2 new ≡ power 2 (old + (255 - (first-exponent + i))) →
+    power 2 new ≡ power (root i) e
 unfolding root
-first-logarithm logarithms roots l r = go (decLt (getD logarithms first 0) first-exponent) (decLt first-exponent (getD logarithms first 0))
+root-power-below i e old new h p q =
+    q ∙ sym (power-add old (255 - l)) ∙ ap (λ (x : ℕ). times x (power 2 (255 - l))) (p ∙ power-mul l (e + 1)) ∙ power-add (l * (e + 1)) (255 - l)
+    ∙ ap (power 2) around ∙ power-past (l * e) ∙ sym (power-mul l e)
   where
-    first : ℕ
-    first = getD roots 0 0
+    l : ℕ
+    l = first-exponent + i
 
-    is-root : first ≡ power 2 first-exponent
-    is-root = r .entry 0 (omega arith)
+    around : l * (e + 1) + (255 - l) ≡ l * e + 255
+    around = omega (arith, ap (_*_ l) (add-one e) ∙ mul-suc l e)
 
-    positive : 1 ≤ first
-    positive = let z : power 2 first-exponent ≡ 0 → ⊥ = power-nonzero first-exponent in omega (arith, is-root)
+-- the logarithm of a root
+module _ (logarithms roots : List ℕ) (l : Logarithms logarithms) (r : Roots roots) (i : ℕ) (h : i < most-checks) where
+  pub root-logarithm : getD logarithms (getD roots i 0) 0 ≡ first-exponent + i
+  unfolding root
+  root-logarithm = go (decLt found (first-exponent + i)) (decLt (first-exponent + i) found)
+    where
+      of-root : ℕ
+      of-root = getD roots i 0
 
-    byte : first < 256
-    byte = rw is-root (power-lt 2 first-exponent)
+      found : ℕ
+      found = getD logarithms of-root 0
 
-    same : power 2 (getD logarithms first 0) ≡ power 2 first-exponent
-    same = l .exponent first positive byte ∙ is-root
+      is-root : of-root ≡ power 2 (first-exponent + i)
+      is-root = r .entry i h
 
-    go :
-        Dec (getD logarithms first 0 < first-exponent) → Dec (first-exponent < getD logarithms first 0) →
-        getD logarithms first 0 ≡ first-exponent
-    go (yes a) b = absurd (powers-differ _ _ a (omega arith) same)
-    go (no a) (yes b) = absurd (powers-differ _ _ b (l .small first positive byte) (sym same))
-    go (no a) (no b) = omega arith
+      positive : 1 ≤ of-root
+      positive = let z : power 2 (first-exponent + i) ≡ 0 → ⊥ = power-nonzero (first-exponent + i) in omega (arith, is-root)
+
+      byte : of-root < 256
+      byte = rw is-root (power-lt 2 (first-exponent + i))
+
+      same : power 2 found ≡ power 2 (first-exponent + i)
+      same = l .exponent of-root positive byte ∙ is-root
+
+      go : Dec (found < first-exponent + i) → Dec (first-exponent + i < found) → found ≡ first-exponent + i
+      go (yes a) b = absurd (powers-differ _ _ a (omega arith) same)
+      go (no a) (yes b) = absurd (powers-differ _ _ b (l .small of-root positive byte) (sym same))
+      go (no a) (no b) = omega arith
 
 -- a column's weight divided out
 pub weight-inverse : (k : ℕ) → k < 254 → power 2 (first-exponent + k * first-exponent) ≡ inverse (power 2 (first-exponent * (254 - k)))

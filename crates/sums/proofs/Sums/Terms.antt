@@ -1,10 +1,10 @@
 -- A row's terms: its products with the constants that an array holds, and a row of zeros has none. Assumes nothing.
 use mathlib.Core.Path.{_≡_, refl, sym, _∙_, ap}
-use mathlib.Core.List.{List, _++_}
+use mathlib.Core.List.{List}
 use Prim.Native.Nat.{ℕ, _+_, _*_, _-_, _≤_, _<_}
 use native.Mathlib.Omega.{arith}
 use lib.ListN.{length, getD, take, drop}
-use lib.Seq.{length-take-le, length-front, take-at, getD-take, getD-drop}
+use lib.Seq.{length-take-le, getD-take, getD-drop}
 use Rattle.arrays.specs.Array.{Filled}
 use Rattle.field.specs.Field.{plus, times}
 use Rattle.field.proofs.Xor.{plus-zero}
@@ -20,19 +20,10 @@ module _ (rows : List ℕ) (j : ℕ) where
   pub row-at : (p : ℕ) → p < row-width → getD (take (row-width * j + row-width - row-width * j) (drop (row-width * j) rows)) p 0 ≡ getD rows (in-row j p) 0
   row-at p h = getD-take (row-width * j + row-width - row-width * j) (drop (row-width * j) rows) p 0 (omega arith) ∙ getD-drop (row-width * j) rows p 0
 
--- constants, by another name for each
-pub filled-as : {size many : ℕ} {f g : ℕ → ℕ} {bytes : List ℕ} → ((i : ℕ) → i < many → f i ≡ g i) → Filled size many f bytes → Filled size many g bytes
-filled-as e w = record { long = w .long; new = λ i h. w .new i h ∙ e i h }
-
--- and written as the first bytes of an array, read as one slice
-module _ (k : ℕ) (f : ℕ → ℕ) (old new : List ℕ) (h : k ≤ length old) (w : Filled (length (take k old)) (length (take k old)) f new) where
-  pub front-room : k ≤ length (new ++ drop k old)
-  front-room = omega (arith, length-front old new k (w .long))
-
-  pub filled-front : Filled k k f (take k (new ++ drop k old))
-  filled-front =
-      let long : length new ≡ k = w .long ∙ length-take-le k old h in
-      rw (take-at new (drop k old) k long) (record { long = long; new = λ p l. w .new p (rw (length-take-le k old h) l) })
+-- the constants: the first bytes of an array, read as one slice, and by another name for each
+pub filled-prefix : {f g : ℕ → ℕ} (k size : ℕ) (bytes : List ℕ) → k ≤ size → ((i : ℕ) → i < size → f i ≡ g i) → Filled size size f bytes → Filled k k g (take k bytes)
+filled-prefix k size bytes h e w =
+    record { long = length-take-le k bytes (omega (arith, w .long)); new = λ p l. getD-take k bytes p 0 l ∙ w .new p (omega arith) ∙ e p (omega arith) }
 
 pub products-of-zeros :
     (row constants sums : List ℕ) → ((i : ℕ) → getD sums i 0 < 256) → ((p : ℕ) → p < row-width → getD row p 0 ≡ 0) → Products-added (length constants) row constants sums sums
