@@ -29,8 +29,8 @@ pub record Ended (planes places : ℕ) (tried weighted : List ℕ) (turns : ℕ)
   pub most : Longest planes tried turns
   pub ahead : (j p : ℕ) → turns ≤ j → p < row-width → getD weighted (in-row j p) 0 ≡ 0
 
--- the same of each of the first planes of a difference of checks in rows: weighted errors in rows, one for each place, and for each
--- plane how many roots are left and how many places were tried; zeros for the other planes
+-- what is found of the first planes of a difference of checks in rows: weighted errors in rows, one for each place, and for each plane
+-- how many roots are left and how many places were tried; zeros for the other planes
 pub record Decoded (planes : ℕ) (s : Settings) (difference left tried weighted : List ℕ) (turns : ℕ) : Type 0 where
   pub long : length weighted ≡ place-rows
   pub bytes : (i : ℕ) → getD weighted i 0 < 256

@@ -22,15 +22,15 @@ pub record Values-added (many size : ℕ) (own checks rows : List ℕ) : Type 0 
 abbrev pub Root-logarithms : List ℕ → Type 0
 Root-logarithms bytes = Filled most-checks most-checks (λ i. first-exponent + i) bytes
 
--- exponents below 255, one for each root
-pub record Exponents (bytes : List ℕ) : Type 0 where
+-- exponents below 255, one for each of the first roots
+pub record Exponents (many : ℕ) (bytes : List ℕ) : Type 0 where
   pub long : length bytes ≡ most-checks
-  pub small : (i : ℕ) → i < most-checks → getD bytes i 0 < 255
+  pub small : (i : ℕ) → i < many → getD bytes i 0 < 255
 
--- and those of the powers of 2 that the powers e of the roots are
-pub record Root-exponents (e : ℕ) (bytes : List ℕ) : Type 0 where
-  pub exponents : Exponents bytes
-  pub same : (i : ℕ) → i < most-checks → power 2 (getD bytes i 0) ≡ power (root i) e
+-- and those of the powers of 2 that the powers e of these roots are
+pub record Root-exponents (many e : ℕ) (bytes : List ℕ) : Type 0 where
+  pub exponents : Exponents many bytes
+  pub same : (i : ℕ) → i < many → power 2 (getD bytes i 0) ≡ power (root i) e
 
 -- row i is at each plane the sum at root i of the first rows of checks, of which there are `count`
 pub record Check-sums (many count : ℕ) (checks sums : List ℕ) : Type 0 where

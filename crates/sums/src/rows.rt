@@ -70,42 +70,42 @@ fn root_logarithms(logarithms: &[u8; 256]) -> [u8; MOST_CHECKS]
     of_roots
 }
 
-// The exponents of one power of each root, below 255: 2^255 is 1.
-fn root_exponents(logarithms: &[u8; MOST_CHECKS], exponent: usize) -> [u8; MOST_CHECKS]
-    requires { ⌜ Root-logarithms (now logarithms) × (exponent ≤ most-checks) ⌝ }
-    ensures { λ r. ⌜ Root-exponents exponent r ⌝ }
+// The exponents of the power `count` of each of so many roots, below 255: 2^255 is 1.
+fn root_exponents(logarithms: &[u8; MOST_CHECKS], count: usize) -> [u8; MOST_CHECKS]
+    requires { ⌜ Root-logarithms (now logarithms) × (count ≤ most-checks) ⌝ }
+    ensures { λ r. ⌜ Root-exponents count count r ⌝ }
 {
     let mut exponents = [0u8; MOST_CHECKS];
     let mut i = 0;
-    while i < MOST_CHECKS {
+    while i < count {
         let logarithm = logarithms[i] as usize;
-        exponents[i] = (logarithm * exponent % 255) as u8;
+        exponents[i] = (logarithm * count % 255) as u8;
         i += 1;
     }
     exponents
 }
 
 // From one power of each root to the one below: back by the root's logarithm is on by 255 less it, which takes no remainder.
-fn lower(logarithms: &[u8; MOST_CHECKS], exponents: &mut [u8; MOST_CHECKS])
-    requires { ⌜ Root-logarithms (now logarithms) × Exponents (now exponents) ⌝ }
-    ensures { λ _. ⌜ ((e : ℕ) → Root-exponents (e + 1) (now (exponents .entry)) → Root-exponents e (now (exponents .exit))) ⌝ }
+fn lower(logarithms: &[u8; MOST_CHECKS], exponents: &mut [u8; MOST_CHECKS], count: usize)
+    requires { ⌜ Root-logarithms (now logarithms) × (count ≤ most-checks) × Exponents count (now exponents) ⌝ }
+    ensures { λ _. ⌜ ((e : ℕ) → Root-exponents count (e + 1) (now (exponents .entry)) → Root-exponents count e (now (exponents .exit))) ⌝ }
 {
     let mut i = 0;
-    while i < MOST_CHECKS {
+    while i < count {
         let step = 255 - logarithms[i] as usize;
         exponents[i] = step_on(exponents[i] as usize, step) as u8;
         i += 1;
     }
 }
 
-// The power of each root by its exponent.
-fn root_powers(powers: &[u8; 255], exponents: &[u8; MOST_CHECKS]) -> [u8; MOST_CHECKS]
-    requires { ⌜ Powers (now powers) × Exponents (now exponents) ⌝ }
-    ensures { λ r. ⌜ Filled most-checks most-checks (λ i. power 2 (getD (now (exponents .entry)) i 0)) r ⌝ }
+// The power of each of so many roots by its exponent.
+fn root_powers(powers: &[u8; 255], exponents: &[u8; MOST_CHECKS], count: usize) -> [u8; MOST_CHECKS]
+    requires { ⌜ Powers (now powers) × (count ≤ most-checks) × Exponents count (now exponents) ⌝ }
+    ensures { λ r. ⌜ Filled most-checks count (λ i. power 2 (getD (now (exponents .entry)) i 0)) r ⌝ }
 {
     let mut constants = [0u8; MOST_CHECKS];
     let mut i = 0;
-    while i < MOST_CHECKS {
+    while i < count {
         constants[i] = powers[exponents[i] as usize];
         i += 1;
     }
@@ -128,8 +128,8 @@ pub fn syndromes(
     let mut sums = [0u8; CHECK_ROWS];
     let mut c = 0;
     while c < count {
-        lower(&of_roots, &mut exponents);
-        let constants = root_powers(powers, &exponents);
+        lower(&of_roots, &mut exponents, count);
+        let constants = root_powers(powers, &exponents, count);
         let at = ROW_WIDTH * c;
         let end = at + ROW_WIDTH;
         add_row(&difference[at..end], &constants[..count], &mut sums);

@@ -21,9 +21,9 @@ module _ (rows : List ℕ) (j : ℕ) where
   row-at p h = getD-take (row-width * j + row-width - row-width * j) (drop (row-width * j) rows) p 0 (omega arith) ∙ getD-drop (row-width * j) rows p 0
 
 -- the constants: the first bytes of an array, read as one slice, and by another name for each
-pub filled-prefix : {f g : ℕ → ℕ} (k size : ℕ) (bytes : List ℕ) → k ≤ size → ((i : ℕ) → i < size → f i ≡ g i) → Filled size size f bytes → Filled k k g (take k bytes)
+pub filled-prefix : {f g : ℕ → ℕ} (k size : ℕ) (bytes : List ℕ) → k ≤ size → ((i : ℕ) → i < k → f i ≡ g i) → Filled size k f bytes → Filled k k g (take k bytes)
 filled-prefix k size bytes h e w =
-    record { long = length-take-le k bytes (omega (arith, w .long)); new = λ p l. getD-take k bytes p 0 l ∙ w .new p (omega arith) ∙ e p (omega arith) }
+    record { long = length-take-le k bytes (omega (arith, w .long)); new = λ p l. getD-take k bytes p 0 l ∙ w .new p l ∙ e p l }
 
 pub products-of-zeros :
     (row constants sums : List ℕ) → ((i : ℕ) → getD sums i 0 < 256) → ((p : ℕ) → p < row-width → getD row p 0 ≡ 0) → Products-added (length constants) row constants sums sums

@@ -31,20 +31,20 @@ lowered-more i v old now w h l q =
     }
 
 abbrev Inv-loop : tie.InvT-loop
-Inv-loop logarithms exponents₀ i₀ exponents i = (i ≤ most-checks) × Lowered i exponents₀ exponents
+Inv-loop logarithms exponents₀ count i₀ exponents i = (i ≤ count) × Lowered i exponents₀ exponents
 
 abbrev μ-loop : tie.MeasureT-loop
-μ-loop logarithms exponents₀ i₀ exponents i = most-checks - i
+μ-loop logarithms exponents₀ count i₀ exponents i = count - i
 
 -- in a turn: the root's logarithm, and that its exponent is still below 255
-logarithm : (l : tie.At-loop Inv-loop μ-loop) → l .loop .i < most-checks → getD (l .before .args .logarithms .now) (l .loop .i) 0 ≡ first-exponent + l .loop .i
-logarithm l h = l .before .pre .0 .new (l .loop .i) h
+logarithm : (l : tie.At-loop Inv-loop μ-loop) → l .loop .i < l .before .args .count → getD (l .before .args .logarithms .now) (l .loop .i) 0 ≡ first-exponent + l .loop .i
+logarithm l h = l .before .pre .0 .new (l .loop .i) (omega (arith, l .before .pre .1))
 
-small : (l : tie.At-loop Inv-loop μ-loop) → l .loop .i < most-checks → getD (l .loop .exponents) (l .loop .i) 0 < 255
-small l h = rw (l .loop .inv .1 .rest (l .loop .i) (omega arith)) (l .before .pre .1 .small (l .loop .i) h)
+small : (l : tie.At-loop Inv-loop μ-loop) → l .loop .i < l .before .args .count → getD (l .loop .exponents) (l .loop .i) 0 < 255
+small l h = rw (l .loop .inv .1 .rest (l .loop .i) (omega arith)) (l .before .pre .2 .small (l .loop .i) h)
 
 loop-holds : tie.Need-loop-holds Inv-loop μ-loop
-loop-holds c = (omega arith, record { long = c .pre .1 .long; passed = λ k h. absurd (omega arith); rest = λ k h. refl })
+loop-holds c = (omega arith, record { long = c .pre .2 .long; passed = λ k h. absurd (omega arith); rest = λ k h. refl })
 
 cast-step : tie.Need-cast-step Inv-loop μ-loop
 cast-step c = omega (arith, logarithm (c .before .before) (omega arith))
@@ -72,7 +72,7 @@ returns c e r =
     let w = c .before .loop .inv .1 in
     record {
       exponents = record { long = w .long; small = λ i h. w .passed i (omega arith) .0 };
-      same = λ i h. root-power-below i e _ _ h (r .same i h) (w .passed i (omega arith) .1);
+      same = λ i h. root-power-below i e _ _ (omega (arith, c .before .before .pre .1)) (r .same i h) (w .passed i (omega arith) .1);
     }
 
 pub lower-spec : {M : Type 1} → statement M

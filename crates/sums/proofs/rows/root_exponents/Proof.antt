@@ -17,11 +17,11 @@ product-small : (l e : ℕ) → l < 255 → e ≤ most-checks → l * e ≤ 255 
 product-small l e h k = mul-le-mul {n₂ = 255} {m₂ = most-checks} (omega arith) k
 
 abbrev Inv-loop : tie.InvT-loop
-Inv-loop logarithms exponent exponents₀ i₀ exponents i =
-    (i ≤ most-checks) × Filled most-checks i (λ k. (first-exponent + k) * exponent % 255) exponents
+Inv-loop logarithms count exponents₀ i₀ exponents i =
+    (i ≤ count) × Filled most-checks i (λ k. (first-exponent + k) * count % 255) exponents
 
 abbrev μ-loop : tie.MeasureT-loop
-μ-loop logarithms exponent exponents₀ i₀ exponents i = most-checks - i
+μ-loop logarithms count exponents₀ i₀ exponents i = count - i
 
 loop-holds : tie.Need-loop-holds Inv-loop μ-loop
 loop-holds c = (omega arith, filled-none _ _ _ refl)
@@ -33,19 +33,19 @@ mul-exponents : tie.Need-mul-exponents Inv-loop μ-loop
 mul-exponents c =
     let s = c .before .before .before in
     let i = c .before .before .loop .i in
-    rw (s .pre .0 .new i (omega arith)) (omega (arith, product-small (first-exponent + i) (s .args .exponent) (omega arith) (s .pre .1)))
+    rw (s .pre .0 .new i (omega arith)) (omega (arith, product-small (first-exponent + i) (s .args .count) (omega arith) (s .pre .1)))
 
 loop-again : tie.Need-loop-again Inv-loop μ-loop
 loop-again c =
     let s = c .before .before .before in
     let l = c .before .before .loop in (
       omega arith,
-      filled-more _ _ _ _ _ (l .inv .1) (omega arith) (ap (λ (x : ℕ). x * s .args .exponent % 255) (s .pre .0 .new (l .i) (omega arith))),
+      filled-more _ _ _ _ _ (l .inv .1) (omega arith) (ap (λ (x : ℕ). x * s .args .count % 255) (s .pre .0 .new (l .i) (omega arith))),
     )
 
 returns : tie.Need-returns Inv-loop μ-loop
 returns c =
-    let e = c .before .before .args .exponent in
+    let e = c .before .before .args .count in
     let f = c .before .loop .inv .1 in
     record {
       exponents = record { long = f .long; small = λ i h. omega (arith, f .new i (omega arith)) };

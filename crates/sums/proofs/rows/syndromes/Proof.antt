@@ -15,7 +15,7 @@ use Rattle.sums.proofs.rows.syndromes.Tie as tie
 
 abbrev Inv-loop : tie.InvT-loop
 Inv-loop powers logarithms difference count of-roots exponents₀ sums₀ c₀ exponents sums c =
-    (c ≤ count) × Root-exponents (count - c) exponents × Check-sums c count difference sums
+    (c ≤ count) × Root-exponents count (count - c) exponents × Check-sums c count difference sums
 
 abbrev μ-loop : tie.MeasureT-loop
 μ-loop powers logarithms difference count of-roots exponents₀ sums₀ c₀ exponents sums c = count - c
@@ -27,11 +27,11 @@ turn c = c .before .before .before .before
 abbrev start : tie.At-loop Inv-loop μ-loop → tie.Start Inv-loop μ-loop
 start l = l .before .before .before .before .before
 
-exponents-of : {d e : ℕ} {bytes : List ℕ} → d ≡ e → Root-exponents d bytes → Root-exponents e bytes
-exponents-of {bytes = bytes} q r = subst (λ (k : ℕ). Root-exponents k bytes) q r
+exponents-of : {many d e : ℕ} {bytes : List ℕ} → d ≡ e → Root-exponents many d bytes → Root-exponents many e bytes
+exponents-of {many = many} {bytes = bytes} q r = subst (λ (k : ℕ). Root-exponents many k bytes) q r
 
 -- the exponents of a turn, and the constants that they make
-lowered : (c : tie.After-lower Inv-loop μ-loop) → Root-exponents (start (turn c) .args .count - (turn c .loop .c + 1)) (c .lower .last .1 .0)
+lowered : (c : tie.After-lower Inv-loop μ-loop) → Root-exponents (start (turn c) .args .count) (start (turn c) .args .count - (turn c .loop .c + 1)) (c .lower .last .1 .0)
 lowered c = c .lower .ensures _ (exponents-of (omega arith) (turn c .loop .inv .1))
 
 abbrev lowering : tie.After-root-powers Inv-loop μ-loop → tie.After-lower Inv-loop μ-loop
@@ -52,10 +52,10 @@ loop-holds : tie.Need-loop-holds Inv-loop μ-loop
 loop-holds c = (omega arith, exponents-of (omega arith) (c .root-exponents .ensures), check-sums-none _ _ _ refl refl)
 
 lower-requires : tie.Need-lower-requires Inv-loop μ-loop
-lower-requires c κs = let l = c .before .before .before in (l .before .before .before .root-logarithms .ensures, l .loop .inv .1 .exponents)
+lower-requires c κs = let l = c .before .before .before in (l .before .before .before .root-logarithms .ensures, start l .pre .2, l .loop .inv .1 .exponents)
 
 root-powers-requires : tie.Need-root-powers-requires Inv-loop μ-loop
-root-powers-requires c κs = (start (turn (c .before)) .pre .0, lowered (c .before) .exponents)
+root-powers-requires c κs = (start (turn (c .before)) .pre .0, start (turn (c .before)) .pre .2, lowered (c .before) .exponents)
 
 array-share-prefix-constants : tie.Need-array-share-prefix-constants Inv-loop μ-loop
 array-share-prefix-constants c = omega (arith, c .before .root-powers .ensures .long)
