@@ -129,8 +129,7 @@ fn by_difference(
     requires { ⌜ (length (now vector) ≡ n * w) × (length (now own) ≡ 2 * t * w) × (length (now checks) ≡ 2 * t * w) × (n * w ≤ length (now output)) ⌝ }
     ensures { λ r. ⌜ Repair-by-as 0 (settings n t w) (now (vector .entry)) (now (own .entry)) (now (checks .entry)) (r .answer) (r .changed) (r .tried) (now (output .entry)) (now (output .exit)) ⌝ }
 {
-    let count = 2 * t;
-    let difference = sums::rows::difference(own, checks, count, w);
+    let difference = sums::rows::difference(own, checks, 2 * t, w);
     if arrays::is_zero(&difference) {
         arrays::copy(output, 0, vector, 0, vector.len());
         return untried(0);

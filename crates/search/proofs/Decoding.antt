@@ -15,7 +15,7 @@ use Rattle.field.specs.Field.{times, power, inverse}
 use Rattle.lanes.specs.Lanes.{in-row, lane}
 use Rattle.lanes.proofs.Lane.{lane-length, lane-at, lane-is, lane-bytes}
 use Rattle.code.specs.Size.{value-room}
-use Rattle.code.specs.Settings.{Settings, settings-refusal, check-count}
+use Rattle.code.specs.Settings.{Settings, settings, settings-refusal, check-count}
 use Rattle.code.specs.Polynomial.{eval}
 use Rattle.code.specs.Plane.{syndrome}
 use Rattle.code.specs.Repair.{Near}
@@ -33,9 +33,10 @@ use Rattle.locator.proofs.Errors.Last.{tries-root, turns-all, tried-last}
 use Rattle.locator.proofs.Decoding.Counted.{few-roots-below, located-none, counted-explained, counted-wrong}
 use Rattle.locator.proofs.Decoder.{sound, complete-size, complete-counted}
 use Rattle.search.specs.Planes.{Plane-found, Ended, Decoded}
-use Rattle.search.specs.Steps.{plane-sums, Sought-all, Fits, polynomial, Walked}
+use Rattle.search.specs.Steps.{plane-sums, Sought-all, Fits, polynomial, Walked, Errors-told}
 use Rattle.search.proofs.NoRoots.{one-nowhere, no-roots-below, one-at}
 use Rattle.search.proofs.Seeking.{short-sought, long-sought, sought-length}
+use Rattle.search.proofs.Told.{weighted-at, weighted-others, numbers-others, weighted-ended}
 
 -- the error told looks at no more sums than the polynomial has coefficients
 quotient-length : (c : ℕ) (ps : List ℕ) → length (quotient c ps) ≤ length ps
@@ -51,18 +52,21 @@ value-same S T n e ps x h =
     ap (λ (a : ℕ). cond (eqb (eval ps x) 0) (times a (inverse (eval (quotient x ps) x))) 0)
     (against-same S T n e (quotient x ps) 0 (omega (arith, quotient-length x ps)))
 
+-- a plane that a value has not looks for no root of a polynomial that is 0
 module _ (planes count t : ℕ) (sums roots rows : List ℕ) (q : Sought-all planes count t sums roots rows) where
-  pub fits : Fits planes t rows roots
-  fits =
-      record {
-        many = q .many;
-        small = q .small;
-        past = λ p m h l.
-            q .coefficient p m h
-            ∙ List·getD-eq-default (sought t (massey (plane-sums p count sums) count)) 0
-            (omega (arith, q .size p h, sought-length t (massey (plane-sums p count sums) count) (massey-fitting (plane-sums p count sums) count .locator)));
-        others = q .others;
-      }
+  pub fits : Fits t rows roots
+  fits = record { many = q .many; small = λ p. small p (decLt p planes); past = λ p m h l. past p m h l (decLt p planes) }
+    where
+      small : (p : ℕ) → Dec (p < planes) → getD roots p 0 ≤ t
+      small p (yes h) = q .small p h
+      small p (no h) = omega (arith, q .others p (omega arith))
+
+      past : (p m : ℕ) → p < value-room → getD roots p 0 < m → Dec (p < planes) → getD rows (in-row m p) 0 ≡ 0
+      past p m inside l (yes h) =
+          q .coefficient p m h
+          ∙ List·getD-eq-default (sought t (massey (plane-sums p count sums) count)) 0
+          (omega (arith, q .size p h, sought-length t (massey (plane-sums p count sums) count) (massey-fitting (plane-sums p count sums) count .locator)))
+      past p m inside l (no h) = q .blank p m (omega arith) (omega arith)
 
 -- no error is told but at a root
 value-nowhere :
@@ -78,10 +82,37 @@ room : (s : Settings) → 1 ≤ s .t → s .t + 1 ≤ check-count s
 unfolding check-count
 room s h = omega arith
 
-module _ (planes : ℕ) (s : Settings) (difference sums roots rows left tried weighted : List ℕ) (allowed : settings-refusal s ≡ 0)
+-- the walk is through the places of the settings, whatever the width of a value
+module _ (s : Settings) where
+  abbrev widest : Settings
+  widest = settings (s .n) (s .t) value-room
+
+  pub walked-as :
+      (places : ℕ) (rows roots left tried marks : List ℕ) → Walked places widest rows roots left tried marks → Walked places s rows roots left tried marks
+  unfolding settings check-count at-place
+  walked-as places rows roots left tried marks w =
+      record {
+        left-long = w .left-long;
+        tried-long = w .tried-long;
+        long = w .long;
+        left-at = w .left-at;
+        tried-at = w .tried-at;
+        mark-at = w .mark-at;
+        ahead = w .ahead;
+        behind = w .behind;
+      }
+
+  pub told-as :
+      (done : ℕ) (rows sums roots marks weighted : List ℕ) → Errors-told done widest rows sums roots marks weighted →
+      Errors-told done s rows sums roots marks weighted
+  unfolding settings check-count
+  told-as done rows sums roots marks weighted d = record { long = d .long; bytes = d .bytes; each = d .each; ahead = d .ahead; behind = d .behind }
+
+module _ (planes turns-taken : ℕ) (s : Settings) (difference sums roots rows left tried marks weighted : List ℕ) (allowed : settings-refusal s ≡ 0)
     (bytes : (i : ℕ) → getD difference i 0 < 256) (small : planes ≤ value-room) (some : 1 ≤ s .t)
     (summed : Check-sums (check-count s) (check-count s) difference sums) (q : Sought-all planes (check-count s) (s .t) sums roots rows)
-    (w : Walked (s .n + check-count s) planes s rows sums roots left tried weighted) where
+    (w : Walked (s .n + check-count s) s rows roots left tried marks) (ended : Ended (s .n + check-count s) tried marks turns-taken)
+    (d : Errors-told turns-taken s rows sums roots marks weighted) where
   module _ (p : ℕ) (h : p < planes) where
     abbrev S : ℕ → ℕ
     S = plane-sums p (check-count s) sums
@@ -127,18 +158,19 @@ module _ (planes : ℕ) (s : Settings) (difference sums roots rows left tried we
 
       left-is : getD left p 0 ≡ many - roots-below (at-place s ps) places
       left-is =
-          w .left-at p h ∙ ap₂ (λ (k : ℕ) (us : List ℕ). k - roots-below (at-place s us) places) many-is polynomial-is
+          w .left-at p (omega arith) ∙ ap₂ (λ (k : ℕ) (us : List ℕ). k - roots-below (at-place s us) places) many-is polynomial-is
 
       tried-is : getD tried p 0 ≡ turns many (at-place s ps) places
       tried-is =
-          w .tried-at p h ∙ ap₂ (λ (k : ℕ) (us : List ℕ). turns k (at-place s us) places) many-is polynomial-is
+          w .tried-at p (omega arith) ∙ ap₂ (λ (k : ℕ) (us : List ℕ). turns k (at-place s us) places) many-is polynomial-is
 
       error-is :
           (j : ℕ) → j < places →
           getD errors j 0
           ≡ cond (tries many (at-place s ps) j) (cond (eqb (at-place s ps j) 0) (value (λ i. getD sums (in-row i p) 0) ps (x j)) 0) 0
       error-is j l =
-          lane-at p places weighted j l ∙ w .error-at j p l h
+          lane-at p places weighted j l
+          ∙ weighted-at planes places turns-taken s rows sums roots left tried marks weighted (q .others) w ended d j p l (omega arith)
           ∙ ap₂
           (λ (k : ℕ) (us : List ℕ).
           cond (tries k (at-place s us) j) (cond (eqb (at-place s us j) 0) (value (λ i. getD sums (in-row i p) 0) us (x j)) 0) 0)
@@ -202,7 +234,7 @@ module _ (planes : ℕ) (s : Settings) (difference sums roots rows left tried we
             inl (
               omega (arith, left-is (state .size) (state .locator) many-short long-short at-short, all),
               sound s checks S allowed (lane-length p _ difference) (lane-bytes p _ difference bytes) same errors (lane-length p places weighted)
-                  (lane-bytes p places weighted (w .bytes)) (counted-explained s S allowed byte all errors located l),
+                  (lane-bytes p places weighted (d .bytes)) (counted-explained s S allowed byte all errors located l),
               tried-is (state .size) (state .locator) many-short long-short at-short
                   ∙ tried-last (state .size) v places errors (lane-length p places weighted) all
                   (counted-wrong s S allowed byte all errors located) (located-none s S allowed errors located),
@@ -216,15 +248,16 @@ module _ (planes : ℕ) (s : Settings) (difference sums roots rows left tried we
     each-plane (yes l) = short l (decLt _ _)
     each-plane (no l) = long (omega arith)
 
-  pub decoded : (turns : ℕ) → Ended planes (s .n + check-count s) tried weighted turns → Decoded planes s difference left tried weighted turns
-  decoded turns e =
+  pub decoded : Decoded planes s difference left tried weighted turns-taken
+  decoded =
+      let places = s .n + check-count s in
       record {
-        long = w .long;
-        bytes = w .bytes;
+        long = d .long ∙ w .long;
+        bytes = d .bytes;
         left-long = w .left-long;
         tried-long = w .tried-long;
         each = λ p h. each-plane p h (decLe _ _);
-        others = w .others;
-        rest = w .rest;
-        ended = e;
+        others = weighted-others planes places turns-taken s rows sums roots left tried marks weighted (q .others) w ended d;
+        rest = numbers-others planes places turns-taken s rows sums roots left tried marks weighted (q .others) w ended d;
+        ended = weighted-ended planes places turns-taken s rows sums roots left tried marks weighted (q .others) w ended d;
       }

@@ -1,5 +1,6 @@
 pub mod Seeking
 pub mod Turn
 pub mod Walk
+pub mod Told
 pub mod NoRoots
 pub mod Decoding

@@ -135,45 +135,35 @@ unfolding Geometric-as
 seeks-geometric p count t sums found some false x e two h byte g s = true-not-false (sym e)
 seeks-geometric p count t sums found some true x e two h byte g s = short-found p count t sums found some x two h byte g s
 
--- plane by plane, and zeros in the rows of those to come
-pub record Sought-to (p count t : ℕ) (sums roots rows : List ℕ) : Type 0 where
-  pub sought : Sought-all p count t sums roots rows
-  pub ahead : (q m : ℕ) → p ≤ q → q < row-width → getD rows (in-row m q) 0 ≡ 0
-
+-- plane by plane: the rows of those to come are zeros
 pub sought-none :
     (count t : ℕ) (sums roots rows : List ℕ) → length roots ≡ value-room → length rows ≡ locator-rows → all-zero roots ≡ true → all-zero rows ≡ true →
-    Sought-to 0 count t sums roots rows
+    Sought-all 0 count t sums roots rows
 sought-none count t sums roots rows e l y z =
     record {
-      sought =
-          record {
-            many = e;
-            long = l;
-            size = λ p h. absurd (omega arith);
-            small = λ p h. absurd (omega arith);
-            coefficient = λ p m h. absurd (omega arith);
-            others = λ p h. zero-at roots y p;
-          };
-      ahead = λ q m h k. zero-at rows z (in-row m q);
+      many = e;
+      long = l;
+      size = λ p h. absurd (omega arith);
+      small = λ p h. absurd (omega arith);
+      coefficient = λ p m h. absurd (omega arith);
+      others = λ p h. zero-at roots y p;
+      blank = λ p m h k. zero-at rows z (in-row m p);
     }
 
 pub sought-more :
-    (p count t : ℕ) (sums roots rows now : List ℕ) (found : Sought) → p < row-width → t ≤ most-bad → Seeks p count t sums found →
-    Sought-to p count t sums roots rows →
+    (p count t : ℕ) (sums roots rows now : List ℕ) (found : Sought) → p < value-room → t ≤ most-bad → Seeks p count t sums found →
+    Sought-all p count t sums roots rows →
     Lane-written p (length (take (found .size + 1) (found .coefficients))) (λ j. getD (take (found .size + 1) (found .coefficients)) j 0) rows now →
-    Sought-to (p + 1) count t sums (set roots p (found .size)) now
+    Sought-all (p + 1) count t sums (set roots p (found .size)) now
 sought-more p count t sums roots rows now found h b s d w =
     record {
-      sought =
-          record {
-            many = length-set roots p (found .size) ∙ d .sought .many;
-            long = w .long ∙ d .sought .long;
-            size = λ q l. sized q l (ℕ-discrete q p);
-            small = λ q l. small q l (ℕ-discrete q p);
-            coefficient = λ q m l. coefficient q m l (ℕ-discrete q p) (decLt m (found .size + 1));
-            others = λ q l. getD-set-other roots p q (found .size) 0 (omega arith) ∙ d .sought .others q (omega arith);
-          };
-      ahead = λ q m l k. w .rest (in-row m q) (λ j g f. omega arith) ∙ d .ahead q m (omega arith) k;
+      many = length-set roots p (found .size) ∙ d .many;
+      long = w .long ∙ d .long;
+      size = λ q l. sized q l (ℕ-discrete q p);
+      small = λ q l. small q l (ℕ-discrete q p);
+      coefficient = λ q m l. coefficient q m l (ℕ-discrete q p) (decLt m (found .size + 1));
+      others = λ q l. getD-set-other roots p q (found .size) 0 (omega arith) ∙ d .others q (omega arith);
+      blank = λ q m l k. w .rest (in-row m q) (λ j g f. omega arith) ∙ d .blank q m (omega arith) k;
     }
   where
     state : State
@@ -183,24 +173,24 @@ sought-more p count t sums roots rows now found h b s d w =
     part = length-take-le (found .size + 1) (found .coefficients) (omega (arith, s .small, s .looks .coefficients .long))
 
     here : getD (set roots p (found .size)) p 0 ≡ found .size
-    here = getD-set-same roots p (found .size) 0 (omega (arith, d .sought .many))
+    here = getD-set-same roots p (found .size) 0 (omega (arith, d .many))
 
     sized : (q : ℕ) → q < p + 1 → Dec (q ≡ p) → getD (set roots p (found .size)) q 0 ≡ roots-sought t (massey (plane-sums q count sums) count)
     sized q l (yes e) = rw e (here ∙ s .looks .size)
-    sized q l (no e) = getD-set-other roots p q (found .size) 0 e ∙ d .sought .size q (omega arith)
+    sized q l (no e) = getD-set-other roots p q (found .size) 0 e ∙ d .size q (omega arith)
 
     small : (q : ℕ) → q < p + 1 → Dec (q ≡ p) → getD (set roots p (found .size)) q 0 ≤ t
     small q l (yes e) = rw e (omega (arith, here, s .small))
-    small q l (no e) = omega (arith, getD-set-other roots p q (found .size) 0 e, d .sought .small q (omega arith))
+    small q l (no e) = omega (arith, getD-set-other roots p q (found .size) 0 e, d .small q (omega arith))
 
     coefficient :
         (q m : ℕ) → q < p + 1 → Dec (q ≡ p) → Dec (m < found .size + 1) →
         getD now (in-row m q) 0 ≡ getD (sought t (massey (plane-sums q count sums) count)) m 0
-    coefficient q m l (no e) a = w .rest (in-row m q) (λ j g f. e (omega arith)) ∙ d .sought .coefficient q m (omega arith)
+    coefficient q m l (no e) a = w .rest (in-row m q) (λ j g f. e (omega arith)) ∙ d .coefficient q m (omega arith)
     coefficient q m l (yes e) (yes a) =
         rw e (w .new m (omega (arith, part)) ∙ getD-take (found .size + 1) (found .coefficients) m 0 a ∙ s .looks .coefficients .at m)
     coefficient q m l (yes e) (no a) =
         rw e
-        (w .rest (in-row m p) (λ j g f. a (omega (arith, part))) ∙ d .ahead p m (omega arith) h
+        (w .rest (in-row m p) (λ j g f. a (omega (arith, part))) ∙ d .blank p m (omega arith) (omega arith)
         ∙ sym (List·getD-eq-default (sought t state) 0
         (omega (arith, sought-length t state (massey-fitting (plane-sums p count sums) count .locator), s .looks .size))))

@@ -18,16 +18,16 @@ Plane-found s cs ys l k =
     ((l ≡ 0) × Near-errors s cs ys × (k ≡ last-wrong ys))
     ⊎ ((l ≡ 0 → ⊥) × ((us ds : List ℕ) → Near s (replicate (s .n) 0) cs us ds → ⊥) × (k ≡ s .n + check-count s))
 
--- the least number that none of the first numbers is above
-pub record Longest (many : ℕ) (sizes : List ℕ) (most : ℕ) : Type 0 where
-  pub above : (p : ℕ) → p < many → getD sizes p 0 ≤ most
-  pub least : (k : ℕ) → ((p : ℕ) → p < many → getD sizes p 0 ≤ k) → most ≤ k
+-- the least number that none of the numbers is above
+pub record Longest (numbers : List ℕ) (most : ℕ) : Type 0 where
+  pub above : (p : ℕ) → getD numbers p 0 ≤ most
+  pub least : (k : ℕ) → ((p : ℕ) → getD numbers p 0 ≤ k) → most ≤ k
 
 -- a search through so many places ended with the plane that tried most, and wrote nothing behind that place
-pub record Ended (planes places : ℕ) (tried weighted : List ℕ) (turns : ℕ) : Type 0 where
+pub record Ended (places : ℕ) (tried rows : List ℕ) (turns : ℕ) : Type 0 where
   pub within : turns ≤ places
-  pub most : Longest planes tried turns
-  pub ahead : (j p : ℕ) → turns ≤ j → p < row-width → getD weighted (in-row j p) 0 ≡ 0
+  pub most : Longest tried turns
+  pub ahead : (j p : ℕ) → turns ≤ j → p < row-width → getD rows (in-row j p) 0 ≡ 0
 
 -- what is found of the first planes of a difference of checks in rows: weighted errors in rows, one for each place, and for each plane
 -- how many roots are left and how many places were tried; zeros for the other planes
@@ -41,4 +41,4 @@ pub record Decoded (planes : ℕ) (s : Settings) (difference left tried weighted
       Plane-found s (lane p (check-count s) difference) (lane p (s .n + check-count s) weighted) (getD left p 0) (getD tried p 0)
   pub others : (j p : ℕ) → planes ≤ p → p < row-width → getD weighted (in-row j p) 0 ≡ 0
   pub rest : (p : ℕ) → planes ≤ p → (getD left p 0 ≡ 0) × (getD tried p 0 ≡ 0)
-  pub ended : Ended planes (s .n + check-count s) tried weighted turns
+  pub ended : Ended (s .n + check-count s) tried weighted turns

@@ -1,12 +1,12 @@
 // The search of all planes for their wrong places: what is looked for in each, and the walk through the places in order.
 mod locators;
 mod places;
+mod weighted;
 
 ghost use mathlib.Core.Path.{_≡_};
-ghost use Prim.Native.Nat.{_*_, _≤_};
+ghost use Prim.Native.Nat.{_≤_};
 ghost use lib.ListN.{length};
 ghost use Rattle.field.specs.Table.{Powers, Logarithms};
-ghost use Rattle.lanes.specs.Lanes.{row-width};
 ghost use Rattle.code.specs.Size.{check-rows};
 ghost use Rattle.code.specs.Settings.{settings, settings-refusal};
 ghost use Rattle.search.specs.Planes.{Decoded};
@@ -14,8 +14,8 @@ use code::sizes::PLACE_ROWS;
 use code::sizes::VALUE_ROOM;
 
 // What the search found. For each plane: how many of the roots looked for are left, none where a codeword is near, and how many places
-// were tried. In rows, one for each place, the weighted errors of the planes that have none left. And how many turns it took: as many as
-// the plane that tried most.
+// were tried. In rows, one for each place, the weighted errors there, which are those of a codeword in the planes that have no root left.
+// And how many turns it took: as many as the plane that tried most.
 pub struct Errors {
     pub left: [u8; VALUE_ROOM],
     pub tried: [u8; VALUE_ROOM],
@@ -33,7 +33,7 @@ pub fn decode(
     planes: usize,
 ) -> Errors
     requires { ⌜ Powers (now powers) × Logarithms (now logarithms) ⌝ }
-    requires { ⌜ (settings-refusal (settings n t planes) ≡ 0) × (1 ≤ t) × (planes ≤ row-width) × (length (now difference) ≡ check-rows) ⌝ }
+    requires { ⌜ (settings-refusal (settings n t planes) ≡ 0) × (1 ≤ t) × (length (now difference) ≡ check-rows) ⌝ }
     ensures { λ r. ⌜ Decoded planes (settings n t planes) (now (difference .entry)) (r .left) (r .tried) (r .weighted) (r .turns) ⌝ }
 {
     let count = 2 * t;
@@ -41,5 +41,26 @@ pub fn decode(
     let sought = locators::seek_all(powers, logarithms, &sums, count, t, planes);
     let rows = sought.rows;
     let roots = sought.roots;
-    places::walk(powers, logarithms, &rows, &sums, roots, n, t, planes)
+    let found = places::walk(powers, &rows, roots, n, t);
+    let left = found.left;
+    let tried = found.tried;
+    let turns = found.turns;
+    let mut weighted = found.marks;
+    weighted::put_all_errors(
+        powers,
+        logarithms,
+        &rows,
+        &sums,
+        roots,
+        n,
+        t,
+        turns,
+        &mut weighted,
+    );
+    Errors {
+        left,
+        tried,
+        weighted,
+        turns,
+    }
 }

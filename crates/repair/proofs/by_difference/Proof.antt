@@ -11,7 +11,7 @@ use Rattle.lanes.specs.Lanes.{row-width}
 use Rattle.code.specs.Settings.{settings, check-count, value-size}
 use Rattle.code.specs.Entry.{values-in}
 use Rattle.arrays.proofs.Bytes.{Bytes, bytes-every}
-use Rattle.code.proofs.ValidSettings.{sizes, value-in-row}
+use Rattle.code.proofs.ValidSettings.{bounds}
 use Rattle.repair.specs.Entry.{none-found, Repair-by-as}
 use Rattle.repair.proofs.Difference.Rows.{Checks-apart, some-bad}
 use Rattle.repair.proofs.Answer.{answer-none, answer-found}
@@ -20,13 +20,9 @@ use borrow.Author.Needs.{needs}
 use Rattle.repair.proofs.by_difference.Statement.{statement}
 use Rattle.repair.proofs.by_difference.Tie as tie
 
--- the sizes of settings that are not refused
-bounds : (c : tie.Start) → let a = c .args in (a .n ≤ most-columns) × (3 * a .t + 1 ≤ a .n) × (a .w ≤ row-width)
-unfolding settings
-bounds c =
-    let s = settings (c .args .n) (c .args .t) (c .args .w) in
-    let z = sizes s (c .pre .0) in
-    (z .few-columns, z .few-bad, value-in-row s z)
+-- the bounds of settings that are not refused
+few : (c : tie.Start) → let a = c .args in (a .n ≤ most-columns) × (3 * a .t + 1 ≤ a .n) × (a .w ≤ row-width)
+few c = let z = bounds (c .args .n) (c .args .t) (c .args .w) (c .pre .0) in (z .0, z .1, z .3)
 
 -- what is known as soon as the difference is: the arguments, and that what they lend is bytes
 abbrev start : tie.After-difference → tie.Start
@@ -53,11 +49,11 @@ tables e = e .before .before .before .before
 abbrev difference-of : tie.After-logarithms → tie.After-difference
 difference-of g = g .before .before .before .before .before
 
-mul-count : tie.Need-mul-count
-mul-count c = let z = bounds (c .before .before .before .before) in omega arith
+mul-difference : tie.Need-mul-difference
+mul-difference c = let z = few (c .before .before .before .before) in omega arith
 
 difference-requires : tie.Need-difference-requires
-difference-requires c κs = let s = c .before .before .before .before in let z = bounds s in let l = s .pre .1 in (omega arith, z .2, omega arith, omega arith)
+difference-requires c κs = let s = c .before .before .before .before in let z = few s in let l = s .pre .1 in (omega arith, z .2, omega arith, omega arith)
 
 slice-aggregate-is-zero : tie.Need-slice-aggregate-is-zero
 slice-aggregate-is-zero c = sym (c .before .difference .ensures .long)
@@ -91,7 +87,6 @@ decode-requires c κs =
       (
         s .pre .0,
         some-bad (a .t) (a .w) _ _ (rows .result) (sym (g .before .before .before .is-zero .ensures) ∙ g .before .before .if1 .left) (rows .ensures),
-        bounds s .2,
         rows .ensures .long,
       ),
     )
@@ -127,7 +122,7 @@ apply-errors-requires c κs =
     let e = found (c .before) in
     let g = tables (searched (e .before)) in
     let s = start (difference-of g) in
-    let z = bounds s in
+    let z = few s in
     let long = found-long e in
     ((g .before .powers .ensures, g .logarithms .ensures), ((z .0, z .2, omega arith), (s .pre .1 .0, s .pre .1 .3)))
 
@@ -142,7 +137,7 @@ count-changed-requires : tie.Need-count-changed-requires
 unfolding settings check-count
 count-changed-requires c κs =
     let e = found (applied c .before .before) in
-    let z = bounds (start (difference-of (tables (searched (e .before))))) in
+    let z = few (start (difference-of (tables (searched (e .before))))) in
     let turns = searched (e .before) .decode .ensures .ended .within in
     (omega (arith, z, turns), omega (arith, z, turns, found-long e))
 
@@ -154,14 +149,14 @@ returns-3 c =
     let d = difference-of (tables (searched (e .before))) in
     let s = start d in
     let a = s .args in
-    answer-found (a .n) (apart-by d) (s .pre .0) _ _ _ _ (bounds s .2) (sym (e .before .is-zero2 .ensures) ∙ not-false _ (e .if2 .left))
+    answer-found (a .n) (apart-by d) (s .pre .0) _ _ _ _ (few s .2) (sym (e .before .is-zero2 .ensures) ∙ not-false _ (e .if2 .left))
     (searched (e .before) .decode .ensures) _ (a .vector .now) (a .output .now) _ (c .count-changed .ensures) (done .apply-errors .ensures)
 
 pub by-difference-spec : {M : Type 1} → statement M
 by-difference-spec =
     tie.close
     (tie.spec
-    mul-count
+    mul-difference
     difference-requires
     slice-aggregate-is-zero
     (λ c κs. search needs)

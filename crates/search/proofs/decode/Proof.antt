@@ -1,24 +1,24 @@
--- `decode` meets its contract: the syndromes, what is looked for in each plane, and the walk. Assumes nothing.
+-- `decode` meets its contract: the syndromes, what is looked for in each plane, the walk, and the errors at the roots that it found. Assumes
+-- nothing.
 use mathlib.Core.Path.{sym}
 use Prim.Native.Nat.{_+_, _*_, _≤_}
 use native.Mathlib.Omega.{arith}
-use Rattle.code.specs.Size.{most-columns}
+use Rattle.code.specs.Size.{most-columns, value-room}
 use Rattle.code.specs.Settings.{settings, check-count}
-use Rattle.code.proofs.ValidSettings.{sizes}
-use Rattle.search.proofs.Decoding.{fits, decoded}
+use Rattle.code.proofs.ValidSettings.{bounds}
+use Rattle.search.proofs.Decoding.{fits, walked-as, told-as, decoded}
 use Rattle.search.proofs.decode.Statement.{statement}
 use Rattle.search.proofs.decode.Tie as tie
 
 -- the bounds of settings that are not refused
-bounds : (c : tie.Start) → (c .args .n ≤ most-columns) × (3 * c .args .t + 1 ≤ c .args .n)
-unfolding settings
-bounds c = let z = sizes (settings (c .args .n) (c .args .t) (c .args .planes)) (c .pre .1 .0) in (z .few-columns, z .few-bad)
+few : (c : tie.Start) → let a = c .args in (a .n ≤ most-columns) × (3 * a .t + 1 ≤ a .n) × (a .planes ≤ value-room)
+few c = let z = bounds (c .args .n) (c .args .t) (c .args .planes) (c .pre .1 .0) in (z .0, z .1, z .2)
 
 mul-count : tie.Need-mul-count
-mul-count c = let z = bounds (c .before) in omega arith
+mul-count c = let z = few (c .before) in omega arith
 
 syndromes-requires : tie.Need-syndromes-requires
-syndromes-requires c κs = let z = bounds (c .before) in (c .before .pre .0 .0, c .before .pre .0 .1, omega arith, omega arith)
+syndromes-requires c κs = let z = few (c .before) in (c .before .pre .0 .0, c .before .pre .0 .1, omega arith, omega arith)
 
 slice-aggregate-seek-all : tie.Need-slice-aggregate-seek-all
 slice-aggregate-seek-all c = sym (c .before .syndromes .ensures .long)
@@ -26,33 +26,71 @@ slice-aggregate-seek-all c = sym (c .before .syndromes .ensures .long)
 seek-all-requires : tie.Need-seek-all-requires
 seek-all-requires c κs =
     let s = c .before .before .before in
-    let z = bounds s in
+    let z = few s in
     let long = c .before .syndromes .ensures .long in
     (s .pre .0, (omega arith, omega arith, omega arith, omega arith, omega arith, omega arith))
 
 slice-aggregate-walk : tie.Need-slice-aggregate-walk
 slice-aggregate-walk c = sym (c .before .before .before .seek-all .ensures .long)
 
-slice-aggregate-walk-2 : tie.Need-slice-aggregate-walk-2
-slice-aggregate-walk-2 c = sym (c .before .before .before .before .before .before .syndromes .ensures .long)
+-- what was known after each step
+abbrev sought-of : tie.After-walk → tie.After-seek-all
+sought-of c = c .before .before .before .before
+
+abbrev summed-of : tie.After-seek-all → tie.After-syndromes
+summed-of c = c .before .before
+
+abbrev start : tie.After-syndromes → tie.Start
+start c = c .before .before
 
 walk-requires : tie.Need-walk-requires
 walk-requires c κs =
-    let sought = c .before .before .before .before in
-    let summed = sought .before .before in
-    let s = summed .before .before in
-    let z = bounds s in
-    (s .pre .0, ((z .0, omega arith, omega arith, sought .seek-all .ensures .long, summed .syndromes .ensures .long), fits _ _ _ _ _ _ (sought .seek-all .ensures)))
+    let sought = c .before .before .before in
+    let s = start (summed-of sought) in
+    let z = few s in
+    ((s .pre .0 .0, z .0, omega arith, sought .seek-all .ensures .long), fits _ _ _ _ _ _ (sought .seek-all .ensures))
+
+slice-aggregate-put-all-errors : tie.Need-slice-aggregate-put-all-errors
+slice-aggregate-put-all-errors c = sym (sought-of (c .before .before .before .before) .seek-all .ensures .long)
+
+slice-aggregate-put-all-errors-2 : tie.Need-slice-aggregate-put-all-errors-2
+slice-aggregate-put-all-errors-2 c = sym (summed-of (sought-of (c .before .before .before .before .before)) .syndromes .ensures .long)
+
+-- from where the marks are lent to the walk
+abbrev walked-of : tie.After-weighted2 → tie.After-walk
+walked-of c = c .before .before .before .before .before .before
+
+slice-aggregate-put-all-errors-3 : tie.Need-slice-aggregate-put-all-errors-3
+slice-aggregate-put-all-errors-3 c = sym (walked-of c .walk .ensures .walked .long)
+
+put-all-errors-requires : tie.Need-put-all-errors-requires
+put-all-errors-requires c κs =
+    let walked = walked-of c in
+    let sought = sought-of walked in
+    let summed = summed-of sought in
+    let s = start summed in
+    let z = few s in
+    let fit = fits _ _ _ _ _ _ (sought .seek-all .ensures) in (
+      (s .pre .0 .0, s .pre .0 .1, walked .walk .ensures .walked .long),
+      (
+        (z .0, omega arith, walked .walk .ensures .ended .within, sought .seek-all .ensures .long, summed .syndromes .ensures .long),
+        (s .pre .1 .1, fit .many, fit .small),
+      ),
+    )
 
 returns : tie.Need-returns
 unfolding settings check-count
 returns c =
-    let sought = c .before .before .before .before .before in
-    let summed = sought .before .before in
-    let s = summed .before .before in
+    let put = c .before in
+    let walked = walked-of (put .before) in
+    let sought = sought-of walked in
+    let summed = summed-of sought in
+    let s = start summed in
     let a = s .args in
-    decoded (a .planes) (settings (a .n) (a .t) (a .planes)) (a .difference .now) _ _ _ _ _ _ (s .pre .1 .0) (λ i. summed .before .shared-slice-known .given i .fits)
-    (omega arith) (omega arith) (summed .syndromes .ensures) (sought .seek-all .ensures) (c .walk .ensures .0) _ (c .walk .ensures .1)
+    let group = settings (a .n) (a .t) (a .planes) in
+    let walk = walked .walk .ensures in
+    decoded (a .planes) _ group (a .difference .now) _ _ _ _ _ _ _ (s .pre .1 .0) (λ i. summed .before .shared-slice-known .given i .fits) (few s .2) (s .pre .1 .1)
+    (summed .syndromes .ensures) (sought .seek-all .ensures) (walked-as group _ _ _ _ _ _ (walk .walked)) (walk .ended) (told-as group _ _ _ _ _ _ (put .put-all-errors .ensures))
 
 pub decode-spec : {M : Type 1} → statement M
 decode-spec =
@@ -63,6 +101,9 @@ decode-spec =
     slice-aggregate-seek-all
     seek-all-requires
     slice-aggregate-walk
-    slice-aggregate-walk-2
     walk-requires
+    slice-aggregate-put-all-errors
+    slice-aggregate-put-all-errors-2
+    slice-aggregate-put-all-errors-3
+    put-all-errors-requires
     returns)

@@ -1,32 +1,34 @@
 -- `longest` meets its contract: of the numbers passed, none is above the largest so far, which is one of them or 0. Assumes nothing.
 use mathlib.Core.Logic.{⊎-elim}
-use Prim.Native.Nat.{ℕ, _-_, _≤_, _<_}
+use Prim.Native.Nat.{_-_, _≤_}
 use native.Mathlib.Omega.{arith}
-use lib.ListN.{getD}
 use borrow.Author.Count.{below-more}
 use borrow.Author.Needs.{needs}
+use Rattle.code.specs.Size.{value-room}
+use Rattle.search.proofs.Walk.{Longest-to, longest-whole}
 use Rattle.search.proofs.places.longest.Statement.{statement}
 use Rattle.search.proofs.places.longest.Tie as tie
 
 abbrev Inv-loop : tie.InvT-loop
-Inv-loop planes roots most₀ p₀ most p =
-    (p ≤ planes) × ((q : ℕ) → q < p → getD roots q 0 ≤ most) × ((k : ℕ) → ((q : ℕ) → q < planes → getD roots q 0 ≤ k) → most ≤ k)
+Inv-loop roots most₀ p₀ most p = (p ≤ value-room) × Longest-to p roots most
 
 abbrev μ-loop : tie.MeasureT-loop
-μ-loop planes roots most₀ p₀ most p = planes - p
+μ-loop roots most₀ p₀ most p = value-room - p
 
 loop-holds : tie.Need-loop-holds Inv-loop μ-loop
-loop-holds c = (omega arith, λ q h. absurd (omega arith), λ k h. omega arith)
+loop-holds c = (omega arith, record { above = λ q h. absurd (omega arith); least = λ k h. omega arith })
 
 loop-again : tie.Need-loop-again Inv-loop μ-loop
 loop-again c =
     let l = c .before .before .loop in
-    let inside = c .before .loop-test .taken in
-    ⊎-elim (λ w. (omega arith, below-more _ _ (λ q h. omega (arith, l .inv .1 q h)) (omega arith), λ k h. omega (arith, h (l .p) inside)))
-    (λ w. (omega arith, below-more _ _ (λ q h. omega (arith, l .inv .1 q h)) (omega arith), λ k h. omega (arith, l .inv .2 k h))) (c .if1 .came)
+    let so-far = l .inv .1 in
+    ⊎-elim
+    (λ w. (omega arith, record { above = below-more _ _ (λ q h. omega (arith, so-far .above q h)) (omega arith); least = λ k h. omega (arith, h (l .p)) }))
+    (λ w. (omega arith, record { above = below-more _ _ (λ q h. omega (arith, so-far .above q h)) (omega arith); least = λ k h. omega (arith, so-far .least k h) }))
+    (c .if1 .came)
 
 returns : tie.Need-returns Inv-loop μ-loop
-returns c = record { above = λ p h. c .before .loop .inv .1 p (omega arith); least = c .before .loop .inv .2 }
+returns c = longest-whole _ _ _ (c .before .before .pre) (omega arith) (c .before .loop .inv .1)
 
 pub longest-spec : {M : Type 1} → statement M
 longest-spec =

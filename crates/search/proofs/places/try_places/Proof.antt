@@ -10,9 +10,8 @@ use borrow.Author.Needs.{needs}
 use Rattle.arrays.specs.Array.{all-zero}
 use Rattle.field.specs.Field.{power}
 use Rattle.field.proofs.Power.{power-lt}
-use Rattle.field.proofs.Table.{powers-at}
 use Rattle.lanes.specs.Lanes.{lane}
-use Rattle.code.specs.Size.{place-rows}
+use Rattle.code.specs.Size.{value-room, place-rows}
 use Rattle.code.specs.Settings.{settings, check-count}
 use Rattle.code.specs.Polynomial.{eval}
 use Rattle.locator.specs.Errors.{place-exponent}
@@ -24,12 +23,12 @@ use Rattle.search.proofs.places.try_places.Statement.{statement}
 use Rattle.search.proofs.places.try_places.Tie as tie
 
 abbrev Inv-loop : tie.InvT-loop
-Inv-loop powers logarithms tables many rows sums roots n t planes places values₀ left₀ tried₀ weighted₀ j₀ end₀ values left tried weighted j end =
+Inv-loop powers tables many rows n t places values₀ roots tried₀ marks₀ j₀ end₀ values left tried marks j end =
     (j ≤ n + 2 * t) × (end ≡ cond (all-zero left) j (n + 2 * t)) × (length values ≡ place-rows)
-    × Walked j planes (settings n t planes) rows sums roots left tried weighted × Longest planes tried j
+    × Walked j (settings n t value-room) rows roots left tried marks × Longest tried j
 
 abbrev μ-loop : tie.MeasureT-loop
-μ-loop powers logarithms tables many rows sums roots n t planes places values₀ left₀ tried₀ weighted₀ j₀ end₀ values left tried weighted j end = n + 2 * t - j
+μ-loop powers tables many rows n t places values₀ roots tried₀ marks₀ j₀ end₀ values left tried marks j end = n + 2 * t - j
 
 -- where the walk has not ended, some plane has a root left, and a place is left too
 going : (left : List ℕ) (j places end : ℕ) → j ≤ places → end ≡ cond (all-zero left) j places → j < end → (all-zero left ≡ false) × (j < places)
@@ -41,29 +40,29 @@ going left j places end h e l = go (all-zero left) refl e
 
 -- what was known at the start
 abbrev start : tie.At-loop Inv-loop μ-loop → tie.Start Inv-loop μ-loop
-start l = let lent = l .before .before in lent .before .before .before .before
+start l = l .before .before .before .before .before
 
 slice-aggregate-end-of : tie.Need-slice-aggregate-end-of Inv-loop μ-loop
-slice-aggregate-end-of c = sym (c .before .before .before .before .pre .1 .1 .1 .0 .many)
+slice-aggregate-end-of c = sym (c .before .before .before .pre .1 .1 .0 .many)
 
 loop-holds : tie.Need-loop-holds Inv-loop μ-loop
 loop-holds c =
-    let s = c .before .before .before .before .before in
-    let w = walked-none _ _ _ _ _ _ _ _ (s .pre .1 .1 .1 .0) refl refl refl refl in
-    (omega arith, c .end-of .ensures, refl, w, ended-none _ _ _ _ _ _ _ _ w)
+    let s = c .before .before .before .before in
+    let w = walked-none _ _ _ _ _ _ (s .pre .1 .1 .0) refl refl refl refl in
+    (omega arith, c .end-of .ensures, refl, w, ended-none _ _ _ _ _ _ w)
 
 -- a turn begins with a place that is left
 inside : (l : tie.In-loop Inv-loop μ-loop) → let a = start (l .before) .args in (all-zero (l .before .loop .left) ≡ false) × (l .before .loop .j < a .n + 2 * a .t)
 inside i = let l = i .before in going (l .loop .left) (l .loop .j) _ (l .loop .end) (l .loop .inv .0) (l .loop .inv .1) (i .loop-test .taken)
 
 mul-place-exponent : tie.Need-mul-place-exponent Inv-loop μ-loop
-mul-place-exponent c = omega (arith, start (c .before) .pre .1 .0)
+mul-place-exponent c = omega (arith, start (c .before) .pre .0)
 
 place-exponent-requires : tie.Need-place-exponent-requires Inv-loop μ-loop
-place-exponent-requires c κs = let bounds = start (c .before) .pre .1 .0 in (bounds .0, omega (arith, bounds), inside c .1)
+place-exponent-requires c κs = let bounds = start (c .before) .pre .0 in (bounds .1, omega (arith, bounds), inside c .1)
 
 mul-at : tie.Need-mul-at Inv-loop μ-loop
-mul-at c = omega (arith, start (c .before .before) .pre .1 .0, inside (c .before))
+mul-at c = omega (arith, start (c .before .before) .pre .0, inside (c .before))
 
 slice-aggregate-put-values : tie.Need-slice-aggregate-put-values Inv-loop μ-loop
 slice-aggregate-put-values c = sym (c .before .before .before .loop .inv .2)
@@ -74,9 +73,9 @@ put-values-requires c κs =
     let i = found .before in
     let l = i .before in
     let s = start l in
-    let many = s .pre .1 .1 .0 in (
+    let many = s .pre .1 .0 in (
       (s .pre .0 .0, many .2),
-      (found .place-exponent .ensures .0, many .0, many .1, omega (arith, many, s .pre .1 .0), omega (arith, s .pre .1 .0, inside i, l .loop .inv .2)),
+      (found .place-exponent .ensures .0, many .0, many .1, omega (arith, many, s .pre .0), omega (arith, s .pre .0, inside i, l .loop .inv .2)),
     )
 
 -- what was known before the values were put
@@ -89,112 +88,78 @@ slice-aggregate-count-place c = sym (turn-of (c .before .before) .before .loop .
 slice-aggregate-count-place-2 : tie.Need-slice-aggregate-count-place-2 Inv-loop μ-loop
 slice-aggregate-count-place-2 c = sym (turn-of (c .before .before .before) .before .loop .inv .3 .tried-long)
 
--- no plane has tried more places than there were turns
-tried-few : (l : tie.At-loop Inv-loop μ-loop) (p : ℕ) → Dec (p < start l .args .planes) → getD (l .loop .tried) p 0 ≤ l .loop .j
-tried-few l p (yes h) = l .loop .inv .4 .above p h
-tried-few l p (no h) = omega (arith, l .loop .inv .3 .rest p (omega arith) .1)
-
 count-place-requires : tie.Need-count-place-requires Inv-loop μ-loop
 count-place-requires c κs =
     let i = turn-of (c .before .before .before) in
     let l = i .before in
-    let s = start l in (
-      (l .loop .inv .3 .left-long, l .loop .inv .3 .tried-long),
-      λ p h. omega (arith, s .pre .1 .0, inside i, tried-few l p (decLt p (s .args .planes))),
-    )
+    ((l .loop .inv .3 .left-long, l .loop .inv .3 .tried-long), λ p h. omega (arith, start l .pre .0, inside i, l .loop .inv .4 .above p))
 
 -- what was known before roots are found
 abbrev put-before : tie.After-count-place Inv-loop μ-loop → tie.After-put-values Inv-loop μ-loop
 put-before c = c .before .before .before .before
 
-element-copy-out-find-roots : tie.Need-element-copy-out-find-roots Inv-loop μ-loop
-element-copy-out-find-roots c = let put = put-before (c .before) in put .before .before .place-exponent .ensures .0
-
 slice-aggregate-find-roots : tie.Need-slice-aggregate-find-roots Inv-loop μ-loop
-slice-aggregate-find-roots c = let put = put-before (c .before .before .before) in sym (put .put-values .ensures .long ∙ turn-of put .before .loop .inv .2)
+slice-aggregate-find-roots c = let put = put-before (c .before .before) in sym (put .put-values .ensures .long ∙ turn-of put .before .loop .inv .2)
 
 slice-aggregate-find-roots-2 : tie.Need-slice-aggregate-find-roots-2 Inv-loop μ-loop
-slice-aggregate-find-roots-2 c = sym (turn-of (put-before (c .before .before .before .before)) .before .loop .inv .3 .left-long)
+slice-aggregate-find-roots-2 c = sym (turn-of (put-before (c .before .before .before)) .before .loop .inv .3 .left-long)
 
 slice-aggregate-find-roots-3 : tie.Need-slice-aggregate-find-roots-3 Inv-loop μ-loop
-slice-aggregate-find-roots-3 c = sym (turn-of (put-before (c .before .before .before .before .before)) .before .loop .inv .3 .long)
+slice-aggregate-find-roots-3 c = sym (turn-of (put-before (c .before .before .before .before)) .before .loop .inv .3 .long)
 
 find-roots-requires : tie.Need-find-roots-requires Inv-loop μ-loop
 find-roots-requires c κs =
-    let put = put-before (c .before .before .before .before .before) in
+    let put = put-before (c .before .before .before .before) in
     let i = turn-of put in
     let l = i .before in
-    let s = start l in
-    let fits = s .pre .1 .1 .1 .0 in
-    let small = s .pre .1 .0 .2 in
-    let w = l .loop .inv .3 in (
-      s .pre .0,
-      (
-        (
-          small,
-          fits .many,
-          omega (arith, s .pre .1 .0, inside i, put .put-values .ensures .long, l .loop .inv .2),
-          omega (arith, s .pre .1 .0, inside i, w .long),
-          omega (arith, small, w .left-long),
-        ),
-        λ p h. (w .ahead (l .loop .j) p (omega arith) (omega (arith, small)), omega (arith, s .pre .1 .0, fits .small p h), omega (arith, s .pre .1 .0, fits .small p h)),
-      ),
-    )
+    let w = l .loop .inv .3 in
+    let bounds = start l .pre .0 in
+    (w .left-long, omega (arith, bounds, inside i, put .put-values .ensures .long, l .loop .inv .2), omega (arith, bounds, inside i, w .long))
 
 -- what was known before a turn's roots were found
-abbrev counted-of : tie.After-weighted2 Inv-loop μ-loop → tie.After-count-place Inv-loop μ-loop
-counted-of c = let found = c .before .before in found .before .before .before .before .before .before
+abbrev counted-of : tie.After-find-roots Inv-loop μ-loop → tie.After-count-place Inv-loop μ-loop
+counted-of c = c .before .before .before .before .before
 
 add-j : tie.Need-add-j Inv-loop μ-loop
-add-j c = let i = turn-of (put-before (counted-of c)) in omega (arith, inside i, start (i .before) .pre .1 .0)
+add-j c = let i = turn-of (put-before (counted-of (c .before .before))) in omega (arith, inside i, start (i .before) .pre .0)
 
 slice-aggregate-end-of-2 : tie.Need-slice-aggregate-end-of-2 Inv-loop μ-loop
 slice-aggregate-end-of-2 c =
-    let found = c .before in sym (found .before .before .find-roots .ensures .fewer .long ∙ turn-of (put-before (counted-of found)) .before .loop .inv .3 .left-long)
+    let found = c .before .before .before in sym (found .find-roots .ensures .fewer .long ∙ turn-of (put-before (counted-of found)) .before .loop .inv .3 .left-long)
 
--- the place of a turn and its values
-place :
-    (l : tie.At-loop Inv-loop μ-loop) (e : ℕ) → e < 255 → e ≡ place-exponent (start l .args .n) (2 * start l .args .t) (l .loop .j) →
-    let a = start l .args in
-    let s = settings (a .n) (a .t) (a .planes) in getD (a .powers .now) e 0 ≡ power 2 (place-exponent (s .n) (check-count s) (l .loop .j))
-unfolding settings check-count
-place l e h q = powers-at _ (start l .pre .0 .0) e h ∙ ap (power 2) q
-
+-- the values of a turn's place
 here :
-    (l : tie.At-loop Inv-loop μ-loop) (e v p : ℕ) → e ≡ place-exponent (start l .args .n) (2 * start l .args .t) (l .loop .j) → p < start l .args .planes →
+    (l : tie.At-loop Inv-loop μ-loop) (e v p : ℕ) → e ≡ place-exponent (start l .args .n) (2 * start l .args .t) (l .loop .j) → p < value-room →
     v ≡ eval (lane p (start l .args .many) (start l .args .rows .now)) (power 2 e) →
-    let a = start l .args in v ≡ at-place (settings (a .n) (a .t) (a .planes)) (polynomial (a .rows .now) (a .roots) p) (l .loop .j)
+    let a = start l .args in v ≡ at-place (settings (a .n) (a .t) value-room) (polynomial (a .rows .now) (a .roots) p) (l .loop .j)
 unfolding settings check-count at-place Same-values
 here l e v p q h w =
     let s = start l in
-    w ∙ s .pre .1 .1 .1 .1 p (power 2 e) h (power-lt 2 e) ∙ ap (λ (i : ℕ). eval (polynomial (s .args .rows .now) (s .args .roots) p) (power 2 i)) q
+    w ∙ s .pre .1 .1 .1 p (power 2 e) h (power-lt 2 e) ∙ ap (λ (i : ℕ). eval (polynomial (s .args .rows .now) (s .args .roots) p) (power 2 i)) q
 
 loop-less : tie.Need-loop-less Inv-loop μ-loop
-loop-less c = omega (arith, inside (turn-of (put-before (counted-of (c .before .before)))))
+loop-less c = omega (arith, inside (turn-of (put-before (counted-of (c .before .before .before .before)))))
 
 loop-again : tie.Need-loop-again Inv-loop μ-loop
 loop-again c =
-    let found = c .before .before in
+    let found = c .before .before .before .before in
     let put = put-before (counted-of found) in
     let i = turn-of put in
     let l = i .before in
-    let a = start l .args in
     let e = put .before .before .place-exponent in
-    let s = settings (a .n) (a .t) (a .planes) in
-    let small = start l .pre .1 .0 .2 in
     let w =
-    walked-more (l .loop .j) (a .planes) _ s (a .rows .now) (a .sums .now) (a .roots) _ _ _ _ _ _ _ small (place l (e .result) (e .ensures .0) (e .ensures .1))
-    (λ p h. here l (e .result) _ p (e .ensures .1) h (put .put-values .ensures .new p (omega (arith, small)))) (l .loop .inv .3) (counted-of found .count-place .ensures)
-    (found .before .before .find-roots .ensures) in
-    (omega (arith, inside i), c .end-of2 .ensures, put .put-values .ensures .long ∙ l .loop .inv .2, w, ended-more _ _ _ _ _ _ _ _ _ _ _ _ (inside i .0) (l .loop .inv .3) w)
+    walked-more _ _ _ _ _ _ _ _ _ _ _ (λ p h. here l (e .result) _ p (e .ensures .1) h (put .put-values .ensures .new p (omega arith))) (l .loop .inv .3)
+    (counted-of found .count-place .ensures) (found .find-roots .ensures) in
+    (omega (arith, inside i), c .end-of2 .ensures, put .put-values .ensures .long ∙ l .loop .inv .2, w, ended-more _ _ _ _ _ _ _ _ _ _ (inside i .0) (l .loop .inv .3) w)
 
 returns : tie.Need-returns Inv-loop μ-loop
 returns c =
     let l = c .before in
-    let w = l .loop .inv .3 in (
-      walked-end _ _ (l .loop .end) _ _ _ _ _ _ _ _ (l .loop .inv .0) (start l .pre .1 .0 .2) (l .loop .inv .1) (omega arith) w,
-      record { within = l .loop .inv .0; most = l .loop .inv .4; ahead = w .ahead },
-    )
+    let w = l .loop .inv .3 in
+    record {
+      walked = walked-end _ _ (l .loop .end) _ _ _ _ _ _ (l .loop .inv .0) (l .loop .inv .1) (omega arith) w;
+      ended = record { within = l .loop .inv .0; most = l .loop .inv .4; ahead = w .ahead };
+    }
 
 pub try-places-spec : {M : Type 1} → statement M
 try-places-spec =
@@ -215,7 +180,6 @@ try-places-spec =
     slice-aggregate-count-place
     slice-aggregate-count-place-2
     count-place-requires
-    element-copy-out-find-roots
     slice-aggregate-find-roots
     slice-aggregate-find-roots-2
     slice-aggregate-find-roots-3

@@ -7,14 +7,14 @@ use Rattle.search.proofs.places.walk.Statement.{statement}
 use Rattle.search.proofs.places.walk.Tie as tie
 
 abbrev start : tie.After-longest → tie.Start
-start c = c .before .before .before
+start c = c .before .before
 
 -- no polynomial has more than t + 1 coefficients
 most-few : (c : tie.After-longest) → c .longest .result ≤ start c .args .t
-most-few c = c .longest .ensures .least (start c .args .t) (start c .pre .1 .1 .small)
+most-few c = c .longest .ensures .least (start c .args .t) (start c .pre .1 .small)
 
 longest-requires : tie.Need-longest-requires
-longest-requires c κs = let s = c .before .before in (omega arith, s .pre .1 .1 .many)
+longest-requires c κs = c .before .pre .1 .many
 
 add-many : tie.Need-add-many
 add-many c = omega (arith, most-few c)
@@ -34,7 +34,7 @@ try-places-requires c κs =
     let most = put .before .before in
     let s = start most in
     let few = most-few most in
-    (s .pre .0, (s .pre .1 .0, ((omega arith, omega arith, put .put-all-tables .ensures), (s .pre .1 .1, same-values _ _ _ _ _ (s .pre .1 .1) (most .longest .ensures)))))
+    (s .pre .0, ((omega arith, omega arith, put .put-all-tables .ensures), (s .pre .1, same-values _ _ _ _ (s .pre .1) (most .longest .ensures))))
 
 returns : tie.Need-returns
 returns c = c .try-places .ensures

@@ -1,0 +1,18 @@
+-- `error_here` meets its contract: its test is the one of the definition. Assumes nothing.
+use mathlib.Core.Path.{refl}
+use borrow.Author.Needs.{needs}
+use borrow.Author.Tests.{eq-eqb, ne-eqb}
+use Rattle.search.specs.Steps.{error-told}
+use Rattle.search.proofs.weighted.error_here.Statement.{statement}
+use Rattle.search.proofs.weighted.error_here.Tie as tie
+
+returns : tie.Need-returns
+unfolding error-told
+returns c = rw (eq-eqb _ _ (c .if1 .taken)) refl
+
+returns-2 : tie.Need-returns-2
+unfolding error-told
+returns-2 c = rw (ne-eqb _ _ (c .before .if1 .left)) (c .error-at .ensures)
+
+pub error-here-spec : {M : Type 1} → statement M
+error-here-spec = tie.close (tie.spec returns (λ c κs. search needs) returns-2)
