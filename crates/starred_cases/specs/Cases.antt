@@ -10,7 +10,7 @@ use Rattle.field.specs.Field.{times}
 use Rattle.code.specs.Settings.{settings}
 use Rattle.code.specs.Polynomial.{generator}
 use Rattle.code.specs.Vector.{has-checks}
-use Rattle.code.specs.Repair.{Repaired, changed-places, No-repair, Tried}
+use Rattle.code.specs.Repair.{Repaired, changed-places, No-repair, Tried, Tried-planes}
 use Rattle.grading.specs.Held.{Held, held-as}
 use Rattle.record.specs.Record.{Rec, who-as, found-as, no-frames, opened}
 use Rattle.record.specs.Refusal.{open-refusal, ask-refusal}
@@ -38,6 +38,7 @@ pub data Case : Type 0 where
   checks-are : (n t : ℕ) → (vector checks : List ℕ) → Case
   repaired-is : (n t : ℕ) → (vector checks repaired : List ℕ) → (changed tried : ℕ) → Case
   none-near : (n t : ℕ) → (vector checks : List ℕ) → (tried : ℕ) → Case
+  planes-tried : (n t w : ℕ) → (vector checks : List (List ℕ)) → (tried : List ℕ) → Case
   told-in-two : (n t number : ℕ) → (vector : List ℕ) → (frames : List (Option (List ℕ))) → (told : List ℕ) → Case
   opening : (n t number : ℕ) → (own : List ℕ) → (answer : ℕ) → Case
   alone-ends : (own : List ℕ) → (confidence : ℕ) → Case
@@ -72,6 +73,7 @@ Holds (repaired-is n t vs cs us m k) =
     ((ds : List (List ℕ)) × Repaired (settings n t 1) (single vs) (single cs) (single us) ds × (changed-places (single vs) (single cs) (single us) ds ≡ m))
     × Tried (settings n t 1) vs cs k
 Holds (none-near n t vs cs k) = No-repair (settings n t 1) (single vs) (single cs) × Tried (settings n t 1) vs cs k
+Holds (planes-tried n t w vs cs ks) = No-repair (settings n t w) vs cs × Tried-planes (settings n t w) vs cs ks
 Holds (told-in-two n t k vs fs ms) =
     ((q : Rec) × Closed 2 (in-round-two n t k vs fs) q) × ((q : Rec) → Closed 2 (in-round-two n t k vs fs) q → q .found .told-two ≡ ms)
 Holds (opening n t k v a) = open-refusal (settings n t (length v)) k v ≡ a
@@ -90,6 +92,15 @@ starred =
     ∷ repaired-is 4 1 (241 ∷ 86 ∷ 35 ∷ 35 ∷ []) (0 ∷ 136 ∷ []) (241 ∷ 86 ∷ 129 ∷ 35 ∷ []) 1 3
     ∷ repaired-is 4 1 (241 ∷ 86 ∷ 35 ∷ 35 ∷ []) (22 ∷ 61 ∷ []) (241 ∷ 49 ∷ 35 ∷ 35 ∷ []) 1 2
     ∷ none-near 4 1 (241 ∷ 86 ∷ 35 ∷ 35 ∷ []) (22 ∷ 77 ∷ []) 6
+    -- nothing wrong, and the last check wrong
+    ∷ repaired-is 4 1 (241 ∷ 86 ∷ 35 ∷ 35 ∷ []) (39 ∷ 78 ∷ []) (241 ∷ 86 ∷ 35 ∷ 35 ∷ []) 0 0
+    ∷ repaired-is 4 1 (241 ∷ 86 ∷ 35 ∷ 35 ∷ []) (39 ∷ 79 ∷ []) (241 ∷ 86 ∷ 35 ∷ 35 ∷ []) 1 6
+    -- two wrong: columns 2 and 5, and column 2 and check 3
+    ∷ repaired-is 7 2 (1 ∷ 20 ∷ 3 ∷ 4 ∷ 50 ∷ 6 ∷ 7 ∷ []) (16 ∷ 65 ∷ 58 ∷ 215 ∷ []) (1 ∷ 2 ∷ 3 ∷ 4 ∷ 5 ∷ 6 ∷ 7 ∷ []) 2 5
+    ∷ repaired-is 7 2 (1 ∷ 20 ∷ 3 ∷ 4 ∷ 5 ∷ 6 ∷ 7 ∷ []) (16 ∷ 65 ∷ 0 ∷ 215 ∷ []) (1 ∷ 2 ∷ 3 ∷ 4 ∷ 5 ∷ 6 ∷ 7 ∷ []) 2 10
+    -- two planes: nothing near the first, and column 3 of the second wrong
+    ∷ planes-tried 4 1 2 ((241 ∷ 241 ∷ []) ∷ (86 ∷ 86 ∷ []) ∷ (35 ∷ 35 ∷ []) ∷ (35 ∷ 35 ∷ []) ∷ []) ((22 ∷ 0 ∷ []) ∷ (77 ∷ 136 ∷ []) ∷ [])
+    (6 ∷ 3 ∷ 0 ∷ 0 ∷ 0 ∷ 0 ∷ 0 ∷ 0 ∷ [])
     -- column 1 of the exchange of 004, with what columns 2, 3 and 4 send to it
     ∷ told-in-two 4 1 1 (241 ∷ 86 ∷ 35 ∷ 35 ∷ []) (none ∷ some (39 ∷ 78 ∷ []) ∷ some (82 ∷ 30 ∷ []) ∷ some (22 ∷ 61 ∷ []) ∷ []) (0 ∷ 0 ∷ 1 ∷ 1 ∷ [])
     ∷ opening 4 1 1 (7 ∷ []) 0

@@ -2,6 +2,7 @@
 // generator, so that its case is one of the definitions alone.
 use libc::STDOUT_FILENO;
 use record::Column;
+use repair::RepairAnswer;
 
 fn wide(byte: u8) -> u32 {
     byte as u32
@@ -29,21 +30,41 @@ fn checks_of(vector: [u8; 4]) {
     print_bytes(&checks);
 }
 
+fn print_repaired(answer: RepairAnswer, output: &[u8]) {
+    io::write_all(STDOUT_FILENO, b"repaired");
+    if answer.answer == 256 {
+        io::write_all(STDOUT_FILENO, b" none\n");
+    } else {
+        print_bytes(output);
+    }
+    io::write_all(STDOUT_FILENO, b"changed ");
+    print_answer(answer.changed);
+    let tried = answer.tried;
+    io::write_all(STDOUT_FILENO, b"tried");
+    print_bytes(&tried);
+}
+
 fn repaired_by(checks: [u8; 2]) {
     let vector = [241u8, 86, 35, 35];
     let mut output = [0u8; 4];
     let repaired = repair::repair(4, 1, 1, &vector, &checks, &mut output);
-    io::write_all(STDOUT_FILENO, b"repaired");
-    if repaired.answer == 256 {
-        io::write_all(STDOUT_FILENO, b" none\n");
-    } else {
-        print_bytes(&output);
-    }
-    io::write_all(STDOUT_FILENO, b"changed ");
-    print_answer(repaired.changed);
-    let tried = repaired.tried;
-    io::write_all(STDOUT_FILENO, b"tried ");
-    print_answer(wide(tried[0]));
+    print_repaired(repaired, &output);
+}
+
+// Seven columns, of which two may be wrong.
+fn two_repaired(vector: [u8; 7], checks: [u8; 4]) {
+    let mut output = [0u8; 7];
+    let repaired = repair::repair(7, 2, 1, &vector, &checks, &mut output);
+    print_repaired(repaired, &output);
+}
+
+// Values of two bytes, and so two planes: nothing near the first, and column 3 of the second wrong.
+fn planes_tried() {
+    let vector = [241u8, 241, 86, 86, 35, 35, 35, 35];
+    let checks = [22u8, 0, 77, 136];
+    let mut output = [0u8; 8];
+    let repaired = repair::repair(4, 1, 2, &vector, &checks, &mut output);
+    print_repaired(repaired, &output);
 }
 
 fn print_told(told: [u8; 32]) {
@@ -147,6 +168,11 @@ fn main() {
     repaired_by([0, 136]);
     repaired_by([22, 61]);
     repaired_by([22, 77]);
+    repaired_by([39, 78]);
+    repaired_by([39, 79]);
+    two_repaired([1, 20, 3, 4, 50, 6, 7], [16, 65, 58, 215]);
+    two_repaired([1, 20, 3, 4, 5, 6, 7], [16, 65, 0, 215]);
+    planes_tried();
     told_in_two();
     opened(4);
     opened(3);
