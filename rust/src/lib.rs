@@ -216,9 +216,10 @@ pub fn check_values(settings: Settings, vector: &[u8], output: &mut [u8]) -> Res
 #[derive(Clone, Copy, Debug, PartialEq, Eq)]
 pub enum Repair {
     /// The output begins with the one vector near enough in every byte plane. So many of the n + 2t places, columns' values and check
-    /// values together, were changed: a place counts once if any byte of it changed.
+    /// values together, were changed: a place counts once if any byte of it changed. And so many were tried in each plane.
     Repaired { changed: u32, tried: Tried },
-    /// Some plane has no codeword near; the output keeps its bytes.
+    /// Some plane has no codeword near; the output keeps its bytes. All n + 2t places of such a plane were tried, and of each other those
+    /// up to its last wrong one.
     Nothing { tried: Tried },
 }
 

@@ -33,9 +33,9 @@ use Rattle.locator.proofs.Errors.Last.{tries-root, turns-all, tried-last}
 use Rattle.locator.proofs.Decoding.Counted.{few-roots-below, located-none, counted-explained, counted-wrong}
 use Rattle.locator.proofs.Decoder.{sound, complete-size, complete-counted}
 use Rattle.search.specs.Planes.{Plane-found, Ended, Decoded}
-use Rattle.search.specs.Steps.{plane-sums, Sought-all, Fits, polynomial, Walked, Errors-told}
+use Rattle.search.specs.Steps.{plane-sums, Sought-all, polynomial, Walked, Errors-told}
 use Rattle.search.proofs.NoRoots.{one-nowhere, no-roots-below, one-at}
-use Rattle.search.proofs.Seeking.{short-sought, long-sought, sought-length}
+use Rattle.search.proofs.Seeking.{short-sought, long-sought}
 use Rattle.search.proofs.Told.{weighted-at, weighted-others, numbers-others, weighted-ended}
 
 -- the error told looks at no more sums than the polynomial has coefficients
@@ -51,22 +51,6 @@ unfolding value
 value-same S T n e ps x h =
     ap (λ (a : ℕ). cond (eqb (eval ps x) 0) (times a (inverse (eval (quotient x ps) x))) 0)
     (against-same S T n e (quotient x ps) 0 (omega (arith, quotient-length x ps)))
-
--- a plane that a value has not looks for no root of a polynomial that is 0
-module _ (planes count t : ℕ) (sums roots rows : List ℕ) (q : Sought-all planes count t sums roots rows) where
-  pub fits : Fits t rows roots
-  fits = record { many = q .many; small = λ p. small p (decLt p planes); past = λ p m h l. past p m h l (decLt p planes) }
-    where
-      small : (p : ℕ) → Dec (p < planes) → getD roots p 0 ≤ t
-      small p (yes h) = q .small p h
-      small p (no h) = omega (arith, q .others p (omega arith))
-
-      past : (p m : ℕ) → p < value-room → getD roots p 0 < m → Dec (p < planes) → getD rows (in-row m p) 0 ≡ 0
-      past p m inside l (yes h) =
-          q .coefficient p m h
-          ∙ List·getD-eq-default (sought t (massey (plane-sums p count sums) count)) 0
-          (omega (arith, q .size p h, sought-length t (massey (plane-sums p count sums) count) (massey-fitting (plane-sums p count sums) count .locator)))
-      past p m inside l (no h) = q .blank p m (omega arith) (omega arith)
 
 -- no error is told but at a root
 value-nowhere :

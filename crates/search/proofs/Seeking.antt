@@ -26,7 +26,7 @@ use Rattle.locator.specs.Search.{sought, roots-sought}
 use Rattle.locator.specs.declared.berlekamp.Locator.{Locator}
 use Rattle.locator.proofs.Locator.Held.{massey-fitting}
 use Rattle.locator.proofs.Locator.Progression.{zero-locator, geometric-locator}
-use Rattle.search.specs.Steps.{plane-sums, Looks, Short-locator, Seeks, Sought-all}
+use Rattle.search.specs.Steps.{plane-sums, Looks, Short-locator, Seeks, Sought-all, Fits}
 use Rattle.search.specs.declared.locators.Sought.{Sought}
 
 -- an array of zeros with the first coefficients put in
@@ -194,3 +194,19 @@ sought-more p count t sums roots rows now found h b s d w =
         (w .rest (in-row m p) (λ j g f. a (omega (arith, part))) ∙ d .blank p m (omega arith) (omega arith)
         ∙ sym (List·getD-eq-default (sought t state) 0
         (omega (arith, sought-length t state (massey-fitting (plane-sums p count sums) count .locator), s .looks .size))))
+
+-- a plane that a value has not looks for no root of a polynomial that is 0
+module _ (planes count t : ℕ) (sums roots rows : List ℕ) (q : Sought-all planes count t sums roots rows) where
+  pub fits : Fits t rows roots
+  fits = record { many = q .many; small = λ p. small p (decLt p planes); past = λ p m h l. past p m h l (decLt p planes) }
+    where
+      small : (p : ℕ) → Dec (p < planes) → getD roots p 0 ≤ t
+      small p (yes h) = q .small p h
+      small p (no h) = omega (arith, q .others p (omega arith))
+
+      past : (p m : ℕ) → p < value-room → getD roots p 0 < m → Dec (p < planes) → getD rows (in-row m p) 0 ≡ 0
+      past p m inside l (yes h) =
+          q .coefficient p m h
+          ∙ List·getD-eq-default (sought t (massey (plane-sums p count sums) count)) 0
+          (omega (arith, q .size p h, sought-length t (massey (plane-sums p count sums) count) (massey-fitting (plane-sums p count sums) count .locator)))
+      past p m inside l (no h) = q .blank p m (omega arith) (omega arith)

@@ -8,11 +8,11 @@ use mathlib.Core.Logic.{inl, inr}
 use mathlib.Core.Option.{Option, some}
 use Prim.Native.Nat.{ℕ, zero, suc, _+_, _≤_, _<_}
 use native.Mathlib.Omega.{arith}
-use native.Mathlib.Decide.{decLt}
 use lib.Dec.{ltb, leb, eqb}
 use lib.IntN.{ℤ}
-use lib.ListN.{length, getD, drop, replicate, getD-replicate, List·getD-eq-default}
+use lib.ListN.{length, getD, drop, replicate}
 use borrow.Author.Tests.{eqb-true, leb-true}
+use Rattle.arrays.proofs.Zeros.{zeros-at}
 use Rattle.field.specs.Field.{plus, xor-from, doubled, times, times-from, power, inverse}
 use Rattle.field.proofs.Power.{doublings, power-doublings}
 use Rattle.code.specs.Settings.{Settings, settings, settings-refusal, check-count, value-size}
@@ -132,14 +132,10 @@ planes-case n t vs cs us m k l first second = (none, record { long = refl; each 
     each (suc zero) h = tried-sized n t 1 2 (plane 1 vs) (plane 1 cs) l (second .1)
     each (suc (suc p)) h = absurd (omega arith)
 
-    zero-at : (p : ℕ) → Dec (p < 6) → _≡_ {A = ℕ} (getD (replicate 6 0) p 0) 0
-    zero-at p (yes h) = getD-replicate 6 p 0 0 h
-    zero-at p (no h) = List·getD-eq-default (replicate 6 0) 0 {n = p} (omega arith)
-
     others : (p : ℕ) → 2 ≤ p → getD (k ∷ l ∷ replicate 6 0) p 0 ≡ 0
     others zero h = absurd (omega arith)
     others (suc zero) h = absurd (omega arith)
-    others (suc (suc p)) h = zero-at p (decLt p 6)
+    others (suc (suc p)) h = zeros-at 6 p
 
 -- the rows that columns 2, 3 and 4 give column 1 of the exchange of 004
 rows-in-two : ℕ → Option Vector

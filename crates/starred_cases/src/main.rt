@@ -1,7 +1,6 @@
 // Runs the starred cases in compiled code and prints what comes out, which is held to the stored lines. All but one: no call hands out a
 // generator, so that its case is one of the definitions alone.
 use libc::STDOUT_FILENO;
-use record::Column;
 use repair::RepairAnswer;
 
 fn wide(byte: u8) -> u32 {

@@ -1,6 +1,6 @@
 // The places of a plane as powers of 2, and the polynomials of all planes at one of them.
 //
-// A place's powers are 2 to a progression of exponents, and all planes' polynomials are evaluated in one row.
+// All planes' polynomials are evaluated in one row, each coefficient by tables that are made once for all places.
 ghost use mathlib.Core.Path.{_≡_};
 ghost use Prim.Native.Nat.{_+_, _*_, _≤_, _<_};
 ghost use lib.ListN.{length};
