@@ -1,18 +1,20 @@
 //! How many places repair tries in each byte plane (Ask 5 of the change requests): columns 1 to n, then checks 1 to 2t, up to the last
 //! wrong one; 0 where none is wrong, n + 2t where no codeword is within t places, whatever the other planes have; 0 behind w planes and for
-//! a refusal. What to expect is known from how each word is made (words.rs), with t = 1 also from a list of all codewords near. Beside it
-//! the answer, how many places are changed, and every byte of the output. The first difference ends the run.
+//! a refusal (refusals.rs). What to expect is known from how each word is made (words.rs), with t = 1 also from a list of all codewords
+//! near. Beside it the answer, how many places are changed, and every byte of the output. The first difference ends the run.
 
 #[path = "../../rust/src/archive.rs"]
 mod archive;
 #[path = "../../models/chance.rs"]
 mod chance;
+mod refusals;
 #[path = "../../models/remainders.rs"]
 mod remainders;
 mod words;
 
 use archive::Repaired;
 use chance::Chance;
+use refusals::refusals;
 use std::collections::BTreeSet;
 use words::{Code, Near, Plane};
 
@@ -134,28 +136,27 @@ fn each_place(chance: &mut Chance) -> u32 {
     words
 }
 
-/// Each pair of places, in a plane and the other way round in the next, with others wrong in the rest.
-fn each_pair(chance: &mut Chance) -> u32 {
+/// Each pair of places, for every t from 2 on with its smallest n, and for the greatest code: in a plane by itself, and in one of eight and
+/// the other way round in the next, with others wrong in the rest.
+fn each_pair(chance: &mut Chance) -> usize {
     let mut words = 0;
-    for (n, t, w) in [
-        (7, 2, 1),
-        (7, 2, 4),
-        (12, 3, 2),
-        (16, 5, 3),
-        (31, 10, 8),
-        (32, 10, 5),
-    ] {
+    for (n, t) in (2..=10).map(|t| (3 * t + 1, t)).chain([(32, 10)]) {
         let code = Code::new(n, t);
+        let mut pairs = 0;
         for (first, last) in
             (2..=code.places()).flat_map(|last| (1..last).map(move |first| (first, last)))
         {
-            let mut planes: Vec<Plane> = (0..w).map(|_| near(&code, chance)).collect();
-            let p = words as usize % w;
-            planes[p] = code.changed(&code.any_codeword(chance), &[first, last], chance);
-            planes[(p + 1) % w] = code.changed(&code.any_codeword(chance), &[last, first], chance);
-            assert_eq!(compare(&code, &planes, chance), 0);
-            words += 1;
+            for w in [1, 8] {
+                let mut planes: Vec<Plane> = (0..w).map(|_| near(&code, chance)).collect();
+                for (p, wrong) in [(pairs, [first, last]), (pairs + 1, [last, first])] {
+                    planes[p % w] = code.changed(&code.any_codeword(chance), &wrong, chance);
+                }
+                assert_eq!(compare(&code, &planes, chance), 0);
+                words += 1;
+            }
+            pairs += 1;
         }
+        assert_eq!(pairs, code.places() * (code.places() - 1) / 2);
     }
     words
 }
@@ -165,6 +166,37 @@ fn near(code: &Code, chance: &mut Chance) -> Plane {
     let count = chance.below(code.t as u64 + 1) as usize;
     let wrong = code.some_places(count, chance);
     code.changed(&code.any_codeword(chance), &wrong, chance)
+}
+
+/// A plane whose last wrong place is this one, with fewer than t others wrong before it, or with none wrong where it is 0.
+fn ending(code: &Code, last: usize, chance: &mut Chance) -> Plane {
+    let mut wrong: Vec<usize> = (1..last).collect();
+    chance.shuffle(&mut wrong);
+    wrong.truncate(chance.below(code.t as u64) as usize);
+    wrong.extend((last > 0).then_some(last));
+    code.changed(&code.any_codeword(chance), &wrong, chance)
+}
+
+/// Beside a plane with no codeword near, before or behind it: each place the last wrong one of each plane, and none wrong, in the smallest
+/// and in the greatest words of eight planes.
+fn beside_none(chance: &mut Chance) -> usize {
+    let mut words = 0;
+    for (n, t) in [(4, 1), (32, 10)] {
+        let code = Code::new(n, t);
+        let mut reached = BTreeSet::new();
+        for (none, p) in (0..8).flat_map(|none| (0..8).map(move |p| (none, p))) {
+            for last in (0..=code.places()).filter(|_| p != none) {
+                let mut planes: Vec<Plane> = (0..8).map(|_| near(&code, chance)).collect();
+                planes[none] = code.far(chance);
+                planes[p] = ending(&code, last, chance);
+                assert_eq!(compare(&code, &planes, chance), NONE);
+                reached.insert((none, p, planes[p].tried()));
+            }
+        }
+        assert_eq!(reached.len(), 8 * 7 * (code.places() + 1));
+        words += reached.len();
+    }
+    words
 }
 
 /// Planes of all kinds side by side, in a third of the words with all of them near. Small words are searched as well.
@@ -259,55 +291,21 @@ fn no_checks(chance: &mut Chance) {
     }
 }
 
-/// A word of n = 4, t = 1, w = 2 with something to try in both planes, lent with other settings or lengths: nothing is tried.
-fn refusals(chance: &mut Chance) {
-    let code = Code::new(4, 1);
-    let planes = [
-        code.changed(&code.any_codeword(chance), &[3], chance),
-        code.far(chance),
-    ];
-    assert_eq!(compare(&code, &planes, chance), NONE);
-    let word = glued(&[&planes[0].received, &planes[1].received]);
-    let refused = |(n, t, w), vector: &[u8], checks: &[u8], room: usize, answer| {
-        let mut output = [FILL; 8];
-        let repaired = archive::repair(n, t, w, vector, checks, &mut output[..room]);
-        let got = (repaired.answer, repaired.changed, repaired.tried, output);
-        assert_eq!(got, (answer, 0, [0; 8], [FILL; 8]), "n {n}, t {t}, w {w}");
-    };
-    let (vector, checks) = word.split_at(8);
-    for n in [0, 33, u32::MAX] {
-        refused((n, 1, 2), vector, checks, 8, 1);
-    }
-    // In 32 bits 3t + 1 would be 3 for the last but one.
-    for (n, t) in [(1, 1), (3, 1), (4, 2), (4, 0x5555_5556), (4, u32::MAX)] {
-        refused((n, t, 2), vector, checks, 8, 2);
-    }
-    for w in [0, 9, u32::MAX] {
-        refused((4, 1, w), vector, checks, 8, 3);
-    }
-    let settings = (4, 1, 2);
-    refused(settings, &word[..7], checks, 8, 18);
-    refused(settings, &word[..9], checks, 8, 18);
-    refused(settings, vector, &checks[..3], 8, 18);
-    refused(settings, vector, &[checks, &[0]].concat(), 8, 18);
-    refused(settings, vector, checks, 7, 18);
-    refused((4, 0, 2), vector, checks, 8, 18);
-    refused((5, 1, 2), vector, checks, 8, 18);
-}
-
 fn main() {
     let mut chance = Chance::new(15);
     worked();
     let places = each_place(&mut chance);
     let two = each_pair(&mut chance);
+    let beside = beside_none(&mut chance);
     let (repaired, some_near, searched) = mixed(&mut chance);
     let (pairs, near) = every_pair_of_checks(&mut chance);
     no_checks(&mut chance);
-    refusals(&mut chance);
+    let refused = refusals(&mut chance);
     assert!(repaired > MIXED / 3 && some_near > MIXED / 4 && searched > 100);
     println!(
         "tried: each plane up to its last wrong place, as made: {places} words with one place wrong, over every n, t and w; {two} with two; \
-         {MIXED} of mixed planes, {repaired} repaired, {some_near} with none near beside something wrong, {searched} of these planes \
-         searched too; and {pairs} pairs of checks, {near} with a codeword near"
+         {beside} with each place beside none near; {MIXED} of mixed planes, {repaired} repaired, {some_near} with none near beside \
+         something wrong, {searched} of these planes searched too; {pairs} pairs of checks, {near} with a codeword near; and {refused} \
+         refusals, of which nothing is told"
     );
 }
