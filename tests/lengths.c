@@ -81,7 +81,7 @@ static void send(struct settings s, struct sajowemi_column column, size_t length
     free(buffer);
 }
 
-/* The bytes are alike, so that every plane has the same places tried: w planes these, those behind them none. */
+/* The planes are alike: so many places tried in each of w, none behind them. */
 static int are_tried(struct settings s, const uint8_t *tried, uint32_t places) {
     for (uint32_t p = 0; p < SAJOWEMI_VALUE_ROOM; p++)
         if (tried[p] != (p < s.w ? places : 0))
@@ -89,30 +89,44 @@ static int are_tried(struct settings s, const uint8_t *tried, uint32_t places) {
     return 1;
 }
 
-/* The code calls: vector, checks and output each of their length or so many bytes off it. */
+/* The code calls: vector, checks and output each of their length or so many bytes off it. The bytes are alike: in the settings above no
+ * codeword is near such a word, but without checks it is one. */
 static void code(struct settings s, int vector_off, int checks_off, int output_off) {
     int vector_right = (int)(s.n * s.w), checks_right = (int)(2 * s.t * s.w);
     size_t vector_length = (size_t)(vector_right + vector_off), checks_length = (size_t)(checks_right + checks_off);
     size_t output_length = (size_t)(vector_right + output_off);
     uint8_t *vector = block(vector_length), *checks = block(checks_length), *output = block(output_length);
     int right = vector_off == 0 && checks_off == 0 && output_off >= 0;
+    uint32_t answer = !right ? SAJOWEMI_CODE_LENGTH : s.t > 0 ? SAJOWEMI_NONE : SAJOWEMI_DONE;
     struct sajowemi_repaired repaired;
-    uint32_t answer;
 
     repaired = sajowemi_repair(s.n, s.t, s.w, vector, vector_length, checks, checks_length, output, output_length);
-    answer = repaired.answer;
-    assert(right ? answer == SAJOWEMI_DONE || answer == SAJOWEMI_NONE : answer == SAJOWEMI_CODE_LENGTH);
-    assert(answer == SAJOWEMI_DONE || repaired.changed == 0);
-    if (answer == SAJOWEMI_CODE_LENGTH)
-        assert(are_tried(s, repaired.tried, 0));
-    else if (answer == SAJOWEMI_NONE)
-        assert(are_tried(s, repaired.tried, s.n + 2 * s.t));
-    else
-        assert(are_tried(s, repaired.tried, repaired.tried[0]));
+    assert(repaired.answer == answer && repaired.changed == 0);
+    assert(are_tried(s, repaired.tried, answer == SAJOWEMI_NONE ? s.n + 2 * s.t : 0));
     assert(is_kept(output, answer == SAJOWEMI_DONE ? (size_t)vector_right : 0, output_length));
     answer = sajowemi_check_values(s.n, s.t, s.w, vector, vector_length, checks, checks_length);
     assert(answer == (vector_off == 0 && checks_off >= 0 ? SAJOWEMI_DONE : SAJOWEMI_CODE_LENGTH));
     assert(is_kept(checks, answer == SAJOWEMI_DONE ? (size_t)checks_right : 0, checks_length));
+    free(vector);
+    free(checks);
+    free(output);
+}
+
+/* Zeros, which are a codeword, but for one place, from 1 on, the checks behind the columns, that is wrong in every plane; 0 for none. */
+static void repair_at(struct settings s, uint32_t place) {
+    size_t vector_length = s.n * s.w, checks_length = 2 * s.t * s.w;
+    uint8_t *vector = block(vector_length), *checks = block(checks_length), *output = block(vector_length);
+    struct sajowemi_repaired repaired;
+
+    for (size_t k = 0; k < vector_length; k++)
+        vector[k] = k / s.w + 1 == place ? FILL : 0;
+    for (size_t k = 0; k < checks_length; k++)
+        checks[k] = s.n + k / s.w + 1 == place ? FILL : 0;
+    repaired = sajowemi_repair(s.n, s.t, s.w, vector, vector_length, checks, checks_length, output, vector_length);
+    assert(repaired.answer == SAJOWEMI_DONE && repaired.changed == (place > 0));
+    assert(are_tried(s, repaired.tried, place));
+    for (size_t k = 0; k < vector_length; k++)
+        assert(output[k] == 0);
     free(vector);
     free(checks);
     free(output);
@@ -141,8 +155,10 @@ int main(void) {
             opened(s, length);
         exchange(s);
         for (int off = 0; off < 27; off++)
-            if (s.t > 0)
+            if (s.t > 0 || off / 3 % 3 > 0)
                 code(s, off / 9 - 1, off / 3 % 3 - 1, off % 3 - 1);
+        for (uint32_t place = 0; place <= (s.t > 0 ? s.n + 2 * s.t : 0); place++)
+            repair_at(s, place);
     }
     printf("lengths: %lu blocks lent from C, each answered and kept to\n", calls);
     return 0;

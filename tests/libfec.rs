@@ -83,7 +83,8 @@ fn input(coders: &libfec::Coders, chance: &mut Chance) -> Input {
     );
     let first = if chance.one_in(4) { n } else { 0 };
     let mut wrong = chance.below(t as u64 + 4) as usize;
-    let (same_in_all, as_many) = (chance.one_in(2), chance.one_in(2));
+    let same_in_all = chance.one_in(2);
+    let as_many = same_in_all || chance.one_in(2);
     let mut places = some_places(&input, first, wrong, chance);
     for plane in 0..w {
         if !as_many {
@@ -136,6 +137,7 @@ fn main() {
             _ => above_t += 1,
         }
     }
+    assert!(apart > INPUTS / 8 && none_apart > INPUTS / 16);
     println!(
         "libfec: {INPUTS} vectors have the same check values and are repaired alike: {none} as none, {unchanged} with no place changed, \
          {to_t} with 1 to t, {above_t} with more than t over their planes; {apart} tried up to another place in one plane than in another, \
