@@ -26,8 +26,9 @@ const GROUPS: [(u32, u32, u32); 6] = [(4, 1, 4), (4, 1, 8), (7, 2, 8), (16, 5, 8
 enum Bad {
     /// All columns are good.
     Nobody,
-    /// t columns send the checks of a vector that differs from the true one at t columns: the longest repair there is.
-    Farthest,
+    /// t columns send the checks of a vector that differs from the true one at the last t columns: the longest repair of one that differs
+    /// at t columns, as its search goes on to column n.
+    LastColumns,
     /// t columns send check bytes at random: mostly no codeword is near.
     Random,
 }
@@ -76,7 +77,7 @@ fn sent(settings: Settings, columns: &[Column], bad: Bad, chance: &mut Chance) -
                 chance.fill(&mut checks);
             } else {
                 let mut vector: Vec<u8> = (1..=n).flat_map(|k| vec![k as u8; w as usize]).collect();
-                for byte in &mut vector[..(t * w) as usize] {
+                for byte in &mut vector[((n - t) * w) as usize..] {
                     *byte ^= 0x80;
                 }
                 check_values(settings, &vector, &mut checks).unwrap();
@@ -128,7 +129,7 @@ fn line(settings: Settings) {
     let send_checks = time(CALLS, || {
         two.send(black_box(&mut buffer)).map(|frame| frame.len())
     });
-    let closings = [Bad::Nobody, Bad::Farthest, Bad::Random].map(|bad| {
+    let closings = [Bad::Nobody, Bad::LastColumns, Bad::Random].map(|bad| {
         let frames = sent(settings, &columns, bad, &mut chance);
         let full = filled(&two, &frames);
         time(CALLS, || {
@@ -141,9 +142,9 @@ fn line(settings: Settings) {
         let mut column = two;
         column.take(2, black_box(&checks[1]))
     });
-    let [agreeing, farthest, random] = closings;
+    let [agreeing, last, random] = closings;
     println!(
-        "| {n}, {t}, {w} | {take_value:.2} | {take_checks:.2} | {send_checks:.2} | {close_one:.2} | {agreeing:.1} | {farthest:.1} | {random:.1} |"
+        "| {n}, {t}, {w} | {take_value:.2} | {take_checks:.2} | {send_checks:.2} | {close_one:.2} | {agreeing:.1} | {last:.1} | {random:.1} |"
     );
 }
 
@@ -166,7 +167,7 @@ fn main() {
     println!("Microseconds a call, medians of {CALLS}, through the safe Rust crate:");
     println!();
     println!(
-        "| n, t, w | take a value | take checks | send checks | close round one | close round two, all agree | the same, t columns farthest off | the same, t columns random |"
+        "| n, t, w | take a value | take checks | send checks | close round one | close round two, all agree | the same, t columns off at the last t columns | the same, t columns random |"
     );
     println!("|---|---|---|---|---|---|---|---|");
     for (n, t, w) in GROUPS {
@@ -177,6 +178,6 @@ fn main() {
     println!(
         "A whole exchange of 31 columns (t = 10, w = 8), all calls of all columns, medians of {EXCHANGES}: {:.1} ms with all good, {:.1} ms with ten bad.",
         exchange(settings, Bad::Nobody),
-        exchange(settings, Bad::Farthest)
+        exchange(settings, Bad::LastColumns)
     );
 }

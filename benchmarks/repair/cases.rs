@@ -35,8 +35,9 @@ const fn smallest(wrong: Wrong) -> Case {
 pub const REPAIRS: [Case; 10] = [
     greatest(Any(0)),
     greatest(Any(1)),
+    // The first, the middle and the last of the 51 places.
     greatest(At(&[1])),
-    greatest(At(&[16])),
+    greatest(At(&[26])),
     greatest(At(&[51])),
     greatest(At(&[1, 2])),
     greatest(Any(10)),
