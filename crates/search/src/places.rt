@@ -18,6 +18,8 @@ use code::sizes::PLACE_ROWS;
 use code::sizes::VALUE_ROOM;
 use lanes::ROW_WIDTH;
 use sums::places::LOCATOR_TABLES;
+use sums::places::SHORT_LOCATOR;
+use sums::places::SHORT_TABLES;
 use sums::places::place_exponent;
 use sums::places::put_all_tables;
 use sums::places::put_values;
@@ -149,13 +151,19 @@ fn try_places(
     }
 }
 
-// The walk for the roots of the polynomials in rows.
+// The walk for the roots of the polynomials in rows. Most repairs concern one or two places, and an array for all tables would take
+// longer to clear than they take to walk to.
 pub fn walk(powers: &[u8; 255], rows: &[u8], roots: [u8; VALUE_ROOM], n: usize, t: usize) -> Found
     requires { ⌜ Powers (now powers) × (n ≤ most-columns) × (t ≤ most-bad) × (length (now rows) ≡ locator-rows) ⌝ }
     requires { ⌜ Fits t (now rows) roots ⌝ }
     ensures { λ r. ⌜ Walked-through n t (now (rows .entry)) roots r ⌝ }
 {
     let many = longest(roots) + 1;
+    if many <= SHORT_LOCATOR {
+        let mut tables = [0u8; SHORT_TABLES];
+        put_all_tables(rows, many, &mut tables);
+        return try_places(powers, &tables, many, rows, roots, n, t);
+    }
     let mut tables = [0u8; LOCATOR_TABLES];
     put_all_tables(rows, many, &mut tables);
     try_places(powers, &tables, many, rows, roots, n, t)

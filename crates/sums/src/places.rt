@@ -8,16 +8,21 @@ ghost use Rattle.arrays.specs.Array.{Filled, Written};
 ghost use Rattle.field.specs.Field.{power};
 ghost use Rattle.field.specs.Table.{Powers, Logarithms};
 ghost use Rattle.code.specs.Size.{most-columns, most-checks, most-bad};
-ghost use Rattle.lanes.specs.Lanes.{row-width, lane};
+ghost use Rattle.lanes.specs.Lanes.{row-width, table-room, lane};
 ghost use Rattle.code.specs.Polynomial.{eval, first-exponent};
 ghost use Rattle.locator.specs.Errors.{place-exponent};
-ghost use Rattle.sums.specs.Places.{locator-tables, Coefficient-tables};
+ghost use Rattle.sums.specs.Places.{Coefficient-tables};
 use code::sizes::MOST_BAD;
 use lanes::ROW_WIDTH;
 use lanes::TABLE_ROOM;
 
 // Room for the tables of every row of a locator's coefficients.
 pub const LOCATOR_TABLES: usize = TABLE_ROOM * (MOST_BAD + 1);
+
+// The same of a locator of one or two places.
+pub const SHORT_LOCATOR: usize = 3;
+
+pub const SHORT_TABLES: usize = TABLE_ROOM * SHORT_LOCATOR;
 
 // A step on from an exponent of 2, below 255 again: 2^255 is 1.
 pub fn step_on(exponent: usize, step: usize) -> usize
@@ -67,8 +72,8 @@ pub fn first_logarithm(logarithms: &[u8; 256]) -> usize
 
 // Puts the tables of each row of coefficients but the first, which goes in as it is: the power 0 of every place is 1.
 pub fn put_all_tables(coefficients: &[u8], many: usize, tables: &mut [u8])
-    requires { ⌜ (1 ≤ many) × (many ≤ most-bad + 1) × (row-width * many ≤ length (now coefficients)) × (length (now tables) ≡ locator-tables) ⌝ }
-    ensures { λ _. ⌜ Coefficient-tables many (now (coefficients .entry)) (now (tables .exit)) ⌝ }
+    requires { ⌜ (1 ≤ many) × (many ≤ most-bad + 1) × (row-width * many ≤ length (now coefficients)) × (table-room * many ≤ length (now tables)) ⌝ }
+    ensures { λ _. ⌜ (length (now (tables .exit)) ≡ length (now (tables .entry))) × Coefficient-tables many (now (coefficients .entry)) (now (tables .exit)) ⌝ }
 {
     let mut m = 1;
     while m < many {

@@ -14,7 +14,7 @@ use Rattle.field.proofs.Logarithm.{times-comm}
 use Rattle.lanes.specs.Lanes.{row-width, table-room, in-row, lane, Tables, Tables-put}
 use Rattle.code.specs.Polynomial.{eval}
 use Rattle.code.proofs.Polynomials.Arithmetic.{eval-append, eval-single}
-use Rattle.sums.specs.Places.{locator-tables, Coefficient-tables}
+use Rattle.sums.specs.Places.{Coefficient-tables}
 use Rattle.lanes.proofs.Lane.{lane-length, lane-more}
 
 -- one more row of coefficients
@@ -70,14 +70,15 @@ module _ (at exponent : ℕ) (coefficients rows copied : List ℕ) (byte : (i : 
       }
 
 -- tables, one row of coefficients more
-pub tables-first : (coefficients tables : List ℕ) → length tables ≡ locator-tables → Coefficient-tables 1 coefficients tables
-tables-first coefficients tables e = record { long = e; each = λ m h l. absurd (omega arith) }
+pub tables-first : (coefficients tables : List ℕ) → table-room ≤ length tables → Coefficient-tables 1 coefficients tables
+tables-first coefficients tables e = record { room = omega arith; each = λ m h l. absurd (omega arith) }
 
 pub tables-more :
     (many : ℕ) (f : ℕ → ℕ) (coefficients tables now : List ℕ) → 1 ≤ many → ((p : ℕ) → p < row-width → f p ≡ getD coefficients (in-row many p) 0) →
-    Coefficient-tables many coefficients tables → Tables-put (table-room * many) f tables now → Coefficient-tables (many + 1) coefficients now
-tables-more many f coefficients tables now some same t w =
-    record { long = w .long ∙ t .long; each = λ m h l. each m h l (decLt m many) }
+    Coefficient-tables many coefficients tables → table-room * (many + 1) ≤ length tables → Tables-put (table-room * many) f tables now →
+    Coefficient-tables (many + 1) coefficients now
+tables-more many f coefficients tables now some same t room w =
+    record { room = omega (arith, w .long); each = λ m h l. each m h l (decLt m many) }
   where
     each : (m : ℕ) → 1 ≤ m → m < many + 1 → Dec (m < many) → Tables (table-room * m) (λ p. getD coefficients (in-row m p) 0) now
     each m h l (yes a) =

@@ -1,7 +1,11 @@
 -- `walk` meets its contract: as many coefficients as the longest polynomial has, their tables, and the places tried by them. Assumes nothing.
 use mathlib.Core.Path.{refl, sym}
-use Prim.Native.Nat.{_≤_}
+use mathlib.Core.List.{List}
+use Prim.Native.Nat.{ℕ, _+_, _≤_}
 use native.Mathlib.Omega.{arith}
+use Rattle.code.specs.Size.{most-bad}
+use Rattle.sums.specs.Places.{Coefficient-tables}
+use Rattle.search.specs.Steps.{Fits, Same-values}
 use Rattle.search.proofs.Walk.{same-values}
 use Rattle.search.proofs.places.walk.Statement.{statement}
 use Rattle.search.proofs.places.walk.Tie as tie
@@ -19,25 +23,36 @@ longest-requires c κs = c .before .pre .1 .many
 add-many : tie.Need-add-many
 add-many c = omega (arith, most-few c)
 
-slice-aggregate-put-all-tables : tie.Need-slice-aggregate-put-all-tables
-slice-aggregate-put-all-tables c = refl
-
 put-all-tables-requires : tie.Need-put-all-tables-requires
-put-all-tables-requires c κs = let few = most-few (c .before) in (omega arith, omega arith, omega arith, refl)
+put-all-tables-requires c κs = let few = most-few (c .before .before) in (omega arith, omega arith, omega arith, omega arith)
+
+-- the places are tried by tables of as many rows, in whichever array they stand
+tried-by :
+    (c : tie.After-longest) (tables : List ℕ) → let s = start c in
+    let many = c .longest .result + 1 in
+    Coefficient-tables many (s .args .rows .now) tables →
+    ((1 ≤ many) × (many ≤ most-bad + 1) × Coefficient-tables many (s .args .rows .now) tables)
+    × (Fits (s .args .t) (s .args .rows .now) (s .args .roots) × Same-values many (s .args .rows .now) (s .args .roots))
+tried-by c tables put =
+    let s = start c in
+    let few = most-few c in
+    ((omega arith, omega arith, put), (s .pre .1, same-values _ _ _ _ (s .pre .1) (c .longest .ensures)))
 
 slice-aggregate-try-places : tie.Need-slice-aggregate-try-places
-slice-aggregate-try-places c = sym (c .before .before .put-all-tables .ensures .long)
+slice-aggregate-try-places c = sym (c .before .before .put-all-tables .ensures .0)
 
 try-places-requires : tie.Need-try-places-requires
-try-places-requires c κs =
-    let put = c .before .before in
-    let most = put .before .before in
-    let s = start most in
-    let few = most-few most in
-    (s .pre .0, ((omega arith, omega arith, put .put-all-tables .ensures), (s .pre .1, same-values _ _ _ _ (s .pre .1) (most .longest .ensures))))
+try-places-requires c κs = let put = c .before .before in let most = put .before .before .before in (start most .pre .0, tried-by most _ (put .put-all-tables .ensures .1))
 
-returns : tie.Need-returns
-returns c = c .try-places .ensures
+put-all-tables-requires-2 : tie.Need-put-all-tables-requires-2
+put-all-tables-requires-2 c κs = let few = most-few (c .before .before) in (omega arith, omega arith, omega arith, omega arith)
+
+slice-aggregate-try-places-2 : tie.Need-slice-aggregate-try-places-2
+slice-aggregate-try-places-2 c = sym (c .before .before .put-all-tables2 .ensures .0)
+
+try-places-requires-2 : tie.Need-try-places-requires-2
+try-places-requires-2 c κs =
+    let put = c .before .before in let most = put .before .before .before in (start most .pre .0, tried-by most _ (put .put-all-tables2 .ensures .1))
 
 pub walk-spec : {M : Type 1} → statement M
 walk-spec =
@@ -45,8 +60,13 @@ walk-spec =
     (tie.spec
     longest-requires
     add-many
-    slice-aggregate-put-all-tables
+    (λ c. refl)
     put-all-tables-requires
     slice-aggregate-try-places
     try-places-requires
-    returns)
+    (λ c. c .try-places .ensures)
+    (λ c. refl)
+    put-all-tables-requires-2
+    slice-aggregate-try-places-2
+    try-places-requires-2
+    (λ c. c .try-places2 .ensures))

@@ -37,7 +37,7 @@ add-from-tables-requires : tie.Need-add-from-tables-requires Inv-loop μ-loop
 add-from-tables-requires c κs =
     let l = c .before .before .before in
     let s = l .before .before .before .before .before .before .before .before in
-    (omega (arith, s .pre .0 .1 .long), omega (arith, l .loop .inv .4 .long))
+    (omega (arith, s .pre .0 .1 .room), omega (arith, l .loop .inv .4 .long))
 
 step-on-requires : tie.Need-step-on-requires Inv-loop μ-loop
 step-on-requires c κs = omega arith
