@@ -44,7 +44,6 @@ pub fn decode(
     let found = places::walk(powers, &rows, roots, n, t);
     let left = found.left;
     let tried = found.tried;
-    let turns = found.turns;
     let mut weighted = found.marks;
     weighted::put_all_errors(
         powers,
@@ -54,13 +53,13 @@ pub fn decode(
         roots,
         n,
         t,
-        turns,
+        found.turns,
         &mut weighted,
     );
     Errors {
         left,
         tried,
         weighted,
-        turns,
+        turns: found.turns,
     }
 }
