@@ -24,7 +24,7 @@ use Rattle.record.specs.Record.{Who, Found, Rec, who-as, taken-at, counted, wit
 use Rattle.record.specs.Refusal.{record-refusal, send-refusal, close-refusal}
 use Rattle.column.specs.Call.{closing, Leads, Operand, Frame-of}
 use Rattle.record.specs.View.{settings-of, who-in, view}
-use Rattle.record.specs.Stored.{no-holdings, with-slot, found-now, one-on, after-refusal}
+use Rattle.record.specs.Stored.{no-holdings, with-slot, found-now, one-on}
 use Rattle.column.specs.Entry.{Send-says, Close-says, Result-says}
 use Rattle.column.specs.Promise.{One-outcome, sent-frame, Sent-taken, Sent-counts}
 use Rattle.record.specs.declared.Column.{Column}
@@ -107,7 +107,7 @@ one-outcome =
           (let same = x .answered ∙ sym (y .answered) in (
             same,
             either a (λ z. x .done z ∙ sym (y .done (sym same ∙ z)))
-                (λ z. x .refused z ∙ ap (λ (n : ℕ). after-refusal n c) same ∙ sym (y .refused (λ u. z (same ∙ u)))),
+                (λ z. x .refused z ∙ sym (rw (sym same) at (y .refused (λ u. z (same ∙ u))))),
           ));
       sizing = λ c a b x y. either (close-refusal (view c)) (λ z. x .done z ∙ sym (y .done z)) (λ z. x .refused z ∙ sym (y .refused z));
       sending = sends;

@@ -18,7 +18,7 @@ pub data Call : Type 0 where
   closing : Call
   asking : Call
 
--- the record after taking: with the frame's operand; refused, as before but for the count
+-- the record after taking: with the frame's operand; refused, as before but for the slot's count
 unfoldable pub after-take : Rec → (slot : ℕ) → (bytes : List ℕ) → Rec
 after-take r k bs =
     let n = take-refusal r k bs in

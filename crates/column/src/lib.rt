@@ -55,7 +55,7 @@ pub fn take(mut column: Column, slot: u32, frame: &[u8]) -> Outcome
                 column.early[k] = filled;
             }
         } else {
-            column.refused = record::raised(column.refused);
+            column.refused[k] = record::raised(column.refused[k]);
         }
     }
     Outcome { answer, column }

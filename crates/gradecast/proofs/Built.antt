@@ -30,16 +30,16 @@ use Rattle.gradecast.proofs.Goods.{among-map, each-map}
 use Rattle.gradecast.proofs.Gradecast.{good-told, gradecast}
 
 -- a step, and a list of them
-pub step-leads : {c d : Column} {x : Call} → Built-step c x d → Leads x (view c) (view d)
+pub step-leads : {c d : Column} {x : Call} {answer : ℕ} → Built-step c x answer d → Leads x (view c) (view d)
 unfolding Leads
 step-leads (takes c d slot answer frame says) = take-reads c d slot answer frame says
 step-leads (sends c answer buffer buffer-now says) = refl
 step-leads (closes c d answer says) = says .reads
 step-leads (asks c h says) = refl
 
-pub run-follows : {c d : Column} {xs : List Call} → Built-run c xs d → Run (view c) xs (view d)
+pub run-follows : {c d : Column} {xs : List Call} {answers : List ℕ} → Built-run c xs answers d → Run (view c) xs (view d)
 run-follows (no-step c) = no-call (view c)
-run-follows (one-step c d e x xs step rest) = one-call (view c) (view d) (view e) x xs (step-leads step) (run-follows rest)
+run-follows (one-step c d e x xs a answers step rest) = one-call (view c) (view d) (view e) x xs (step-leads step) (run-follows rest)
 
 -- a column that ran as built ran as defined
 ran-follows : (s : Settings) (run : ℕ) (b : Built) → Built-ran s run b → Ran s run (defined b)

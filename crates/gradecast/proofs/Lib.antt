@@ -9,3 +9,4 @@ pub mod Cases
 pub mod EveryStep
 pub mod NothingFollows
 pub mod NothingTold
+pub mod Refused

@@ -9,7 +9,7 @@ use Rattle.record.specs.Frame.{round-in}
 use Rattle.record.specs.Record.{Found}
 use Rattle.record.specs.Refusal.{take-refusal}
 use Rattle.record.specs.View.{view}
-use Rattle.record.specs.Stored.{empty-slots, opened-column, slots-with, with-slot, with-count, found-now, one-on}
+use Rattle.record.specs.Stored.{empty-slots, opened-column, slots-with, with-slot, with-counts, found-now, one-on}
 use Rattle.record.specs.declared.Column.{Column}
 use Rattle.record.proofs.InTime.{in-time-low}
 use Rattle.record.proofs.FrameRefusal.{round-in-most, taken-of}
@@ -37,7 +37,7 @@ unfolding one-on
 ends-closed c q ends = record { early = λ h. refl; slots = λ h. ends .early (omega arith) }
 
 pub nothing-follows : Nothing-follows
-unfolding Nothing-follows opened-column with-count
+unfolding Nothing-follows opened-column with-counts
 nothing-follows s run b ran =
     let first : Ends (b .first) = rw (ran .opening .done refl) (record { early = λ h. absurd (omega arith); slots = λ h. absurd (omega arith) }) in
     let last = every-step Ends ends-taken (λ c n ends. record { early = ends .early; slots = ends .slots }) ends-closed first (ran .steps) in

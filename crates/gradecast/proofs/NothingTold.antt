@@ -7,7 +7,7 @@ use lib.ListN.{replicate}
 use borrow.Author.Tests.{ne-eqb}
 use Rattle.code.specs.Size.{most-columns}
 use Rattle.record.specs.Record.{Found}
-use Rattle.record.specs.Stored.{no-findings, opened-column, with-slot, with-count, found-now, one-on}
+use Rattle.record.specs.Stored.{no-findings, opened-column, with-slot, with-counts, found-now, one-on}
 use Rattle.record.specs.declared.Column.{Column}
 use Rattle.gradecast.specs.Built.{Nothing-told}
 use Rattle.gradecast.proofs.EveryStep.{every-step}
@@ -25,7 +25,7 @@ untold-closed c q u =
     }
 
 pub nothing-told : Nothing-told
-unfolding Nothing-told opened-column no-findings with-slot with-count
+unfolding Nothing-told opened-column no-findings with-slot with-counts
 nothing-told s run b ran =
     let first : Untold (b .first) = rw (ran .opening .done refl) (record { two = λ h. refl; three = λ h. refl }) in
     let last =

@@ -18,32 +18,36 @@ use Rattle.record.specs.declared.Column.{Column}
 use Rattle.record.specs.declared.Holdings.{Holdings}
 use Rattle.gradecast.specs.Promise.{Among, Good, numbers, none-held, Fair, bad-count, Few-told, Agree}
 
--- a call on a record and the record after it, refused or not: what `take`, `send`, `close` and `result` say; `send` and `result` give
--- no record back, so that the one lent stays
-pub data Built-step : Column → Call → Column → Type 0 where
-  takes : (c d : Column) (slot answer : ℕ) (frame : List ℕ) → Take-says c slot frame answer d → Built-step c (taking slot frame) d
-  sends : (c : Column) (answer : ℕ) (buffer buffer-now : List ℕ) → Send-says c buffer answer buffer-now → Built-step c (sending (length buffer)) c
-  closes : (c d : Column) (answer : ℕ) → Close-says c answer d → Built-step c closing d
-  asks : (c : Column) (h : Holdings) → Result-says c h → Built-step c asking c
+-- a call on a record, its answer and the record after it, refused or not: what `take`, `send`, `close` and `result` say; `send` and
+-- `result` give no record back, so that the one lent stays
+pub data Built-step : Column → Call → (answer : ℕ) → Column → Type 0 where
+  takes : (c d : Column) (slot answer : ℕ) (frame : List ℕ) → Take-says c slot frame answer d → Built-step c (taking slot frame) answer d
+  sends :
+      (c : Column) (answer : ℕ) (buffer buffer-now : List ℕ) → Send-says c buffer answer buffer-now → Built-step c (sending (length buffer)) answer c
+  closes : (c d : Column) (answer : ℕ) → Close-says c answer d → Built-step c closing answer d
+  asks : (c : Column) (h : Holdings) → Result-says c h → Built-step c asking (h .answer) c
 
--- a list of calls, each on the record as the call before left it
-pub data Built-run : Column → List Call → Column → Type 0 where
-  no-step : (c : Column) → Built-run c [] c
-  one-step : (c d e : Column) (x : Call) (xs : List Call) → Built-step c x d → Built-run d xs e → Built-run c (x ∷ xs) e
+-- a list of calls and their answers, each on the record as the call before left it
+pub data Built-run : Column → List Call → (answers : List ℕ) → Column → Type 0 where
+  no-step : (c : Column) → Built-run c [] [] c
+  one-step :
+      (c d e : Column) (x : Call) (xs : List Call) (answer : ℕ) (answers : List ℕ) → Built-step c x answer d → Built-run d xs answers e →
+      Built-run c (x ∷ xs) (answer ∷ answers) e
 
--- a good column as built: its number, the own value it was opened with, the record that `open` gave, its list of calls, and the record
--- after them
+-- a good column as built: its number, the own value it was opened with, the record that `open` gave, its list of calls, what they
+-- answered, and the record after them
 pub record Built : Type 0 where
   pub number : ℕ
   pub own : Value
   pub first : Column
   pub calls : List Call
+  pub answers : List ℕ
   pub last : Column
 
 -- opened without refusal, and the calls
 pub record Built-ran (s : Settings) (run : ℕ) (b : Built) : Type 0 where
   pub opening : Open-says (s .n) (s .t) (s .w) (b .number) run (b .own) 0 (b .first)
-  pub steps : Built-run (b .first) (b .calls) (b .last)
+  pub steps : Built-run (b .first) (b .calls) (b .answers) (b .last)
 
 -- the same column in the definitions' run of its list
 unfoldable pub defined : Built → Good

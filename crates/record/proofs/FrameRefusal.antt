@@ -1,88 +1,19 @@
 -- What it says that a frame is not turned down, and the other way round: one that fits and comes in time can be turned down for one
--- reason only, that a frame of its round is there. Lines 1 to 8 never count as refused frames, and a frame's own always do. Assumes
--- nothing.
+-- reason only, that a frame of its round is there. Assumes nothing.
 use mathlib.Core.Path.{_≡_, refl, sym, _∙_, ap, ap₂, subst}
-use mathlib.Core.Bool.{Bool, true, false, cond, _&&_, _||_, not}
+use mathlib.Core.Bool.{Bool, true, false, cond, _||_, not}
 use mathlib.Core.List.{List, [], _∷_, _++_}
-use Prim.Native.Nat.{ℕ, _+_, _*_, _≤_}
+use Prim.Native.Nat.{ℕ, _≤_}
 use native.Mathlib.Omega.{arith}
-use lib.Dec.{eqb, ltb, leb}
+use lib.Dec.{eqb}
 use lib.ListN.{length, getD}
-use borrow.Author.Tests.{eqb-true, eqb-false, eq-eqb, ne-eqb, le-leb, lt-leb, le-ltb, not-false}
+use borrow.Author.Tests.{eqb-true, eqb-false, eq-eqb, ne-eqb, le-ltb, not-false}
 use Rattle.code.specs.Settings.{Settings, settings-refusal}
 use Rattle.record.specs.Frame.{command, frame-size, command-round, round-in, sender-in, run-in}
-use Rattle.record.specs.Record.{Who, Rec, is-taken, frame-at, In-time}
-use Rattle.record.specs.Refusal.{line, first-of, number-refusal, blank-refusal, round-refusal, slot-refusal, short-refusal, command-refusal, length-refusal, sender-refusal, run-refusal, other-round-refusal, repeated-refusal, record-refusal, frame-refusal, take-refusal, frame-fault}
-use Rattle.record.proofs.Refusal.{line-passed, line-zero, line-low, first-of-zero, first-of-here, first-of-next, first-of-last, first-of-group, first-of-low, inside, slot-inside, record-settings}
+use Rattle.record.specs.Record.{Rec, is-taken, frame-at, In-time}
+use Rattle.record.specs.Refusal.{line, first-of, round-refusal, slot-refusal, short-refusal, command-refusal, length-refusal, sender-refusal, run-refusal, other-round-refusal, repeated-refusal, record-refusal, frame-refusal, take-refusal}
+use Rattle.record.proofs.Refusal.{line-passed, line-zero, first-of-zero, first-of-here, first-of-next, first-of-last, first-of-group, inside, slot-inside, record-settings}
 use Rattle.record.proofs.InTime.{in-time-passes, in-time-of, out-of-time}
-
--- the numbers that count
-pub uncounted : (a : ℕ) → a ≤ 8 → frame-fault a ≡ false
-unfolding frame-fault
-uncounted a h = simp (lt-leb 9 a (omega arith))
-
-pub counted-up : (a : ℕ) → 9 ≤ a → a ≤ 15 → frame-fault a ≡ true
-unfolding frame-fault
-counted-up a h l = simp (le-leb 9 a h, le-leb a 15 l)
-
-settings-low : (s : Settings) → settings-refusal s ≤ 8
-unfolding settings-refusal
-settings-low s = go (not (leb 1 (s .n) && leb (s .n) 32)) (ltb (s .n) (3 * s .t + 1)) (leb 1 (s .w) && leb (s .w) 8)
-  where
-    go : (a b c : Bool) → cond a 1 (cond b 2 (cond c 0 3)) ≤ 8
-    go true b c = omega arith
-    go false true c = omega arith
-    go false false true = omega arith
-    go false false false = omega arith
-
-none-low : (top : ℕ) → first-of [] ≤ top
-unfolding first-of
-none-low top = omega arith
-
--- the lines before the frame's own
-pub before-frame-low : (w : Who) (m k : ℕ) → first-of (record-refusal w ∷ round-refusal m ∷ slot-refusal (w .settings .n) (w .number) k ∷ []) ≤ 8
-unfolding record-refusal number-refusal blank-refusal round-refusal slot-refusal
-before-frame-low w m k =
-    first-of-low _ _ 8
-    (first-of-low _ _ 8 (settings-low (w .settings))
-    (first-of-low _ _ 8 (line-low 4 _ 8 (omega arith)) (first-of-low _ _ 8 (line-low 6 _ 8 (omega arith)) (none-low 8))))
-    (first-of-low _ _ 8 (line-low 7 _ 8 (omega arith)) (first-of-low _ _ 8 (line-low 8 _ 8 (omega arith)) (none-low 8)))
-
--- the frame's own
-record Counts (a : ℕ) : Type 0 where
-  here : (a ≡ 0 → ⊥) → (9 ≤ a) × (a ≤ 15)
-
-counts-line : (m : ℕ) (t : Bool) → 9 ≤ m → m ≤ 15 → Counts (line m t)
-unfolding line
-counts-line m true h l = record { here = λ z. (h, l) }
-counts-line m false h l = record { here = λ z. absurd (z refl) }
-
-counts-more : (a : ℕ) (rest : List ℕ) → Counts a → Counts (first-of rest) → Counts (first-of (a ∷ rest))
-unfolding first-of
-counts-more a rest h l = go (eqb a 0)
-  where
-    go : (q : Bool) → Counts (cond q (first-of rest) a)
-    go true = l
-    go false = h
-
-counts-none : Counts (first-of [])
-unfolding first-of
-counts-none = record { here = λ z. absurd (z refl) }
-
-frame-lines : (s : Settings) (run m k : ℕ) (taken : Bool) (bs : List ℕ) → Counts (frame-refusal s run m k taken bs)
-unfolding frame-refusal short-refusal command-refusal length-refusal sender-refusal run-refusal other-round-refusal repeated-refusal
-frame-lines s run m k taken bs =
-    counts-more _ _ (counts-line 9 _ (omega arith) (omega arith))
-    (counts-more _ _ (counts-line 10 _ (omega arith) (omega arith))
-    (counts-more _ _ (counts-line 11 _ (omega arith) (omega arith))
-    (counts-more _ _ (counts-line 12 _ (omega arith) (omega arith))
-    (counts-more _ _ (counts-line 13 _ (omega arith) (omega arith))
-    (counts-more _ _ (counts-line 14 _ (omega arith) (omega arith)) (counts-more _ _ (counts-line 15 _ (omega arith) (omega arith)) counts-none))))))
-
-pub frame-counts :
-    (s : Settings) (run m k : ℕ) (taken : Bool) (bs : List ℕ) → (frame-refusal s run m k taken bs ≡ 0 → ⊥) →
-    frame-fault (frame-refusal s run m k taken bs) ≡ true
-frame-counts s run m k taken bs e = let range = frame-lines s run m k taken bs .here e in counted-up _ (range .0) (range .1)
 
 -- a frame is of one of three rounds, or of none
 pub round-in-most : (bs : List ℕ) → round-in bs ≤ 3

@@ -29,11 +29,6 @@ unfolding line
 line-zero m false h e = refl
 line-zero m true h e = absurd (omega arith)
 
-pub line-low : (m : ℕ) (t : Bool) (top : ℕ) → m ≤ top → line m t ≤ top
-unfolding line
-line-low m false top h = omega arith
-line-low m true top h = h
-
 -- some lines
 pub first-of-zero : (a : ℕ) (rest : List ℕ) → first-of (a ∷ rest) ≡ 0 → (a ≡ 0) × (first-of rest ≡ 0)
 unfolding first-of
@@ -73,14 +68,6 @@ first-of-group (x ∷ xs) ys = go (eqb x 0) refl (first-of-group xs ys)
 pub first-of-known : {g : ℕ} (xs ys : List ℕ) → g ≡ first-of xs → first-of (xs ++ ys) ≡ first-of (g ∷ ys)
 first-of-known xs ys e = sym (first-of-group xs ys) ∙ ap (λ (k : ℕ). first-of (k ∷ ys)) (sym e)
 
-pub first-of-low : (a : ℕ) (rest : List ℕ) (top : ℕ) → a ≤ top → first-of rest ≤ top → first-of (a ∷ rest) ≤ top
-unfolding first-of
-first-of-low a rest top h l = go (eqb a 0)
-  where
-    go : (q : Bool) → cond q (first-of rest) a ≤ top
-    go true = l
-    go false = h
-
 between : (a k b : ℕ) → not (leb a k && leb k b) ≡ false → (a ≤ k) × (k ≤ b)
 between a k b e = let both = and-split (leb a k) (leb k b) (not-false _ e) in (leb-true _ _ (both .0), leb-true _ _ (both .1))
 
@@ -99,6 +86,10 @@ round-inside m e = between 1 m 3 (line-zero 7 _ (omega arith) e)
 pub slot-inside : (n own k : ℕ) → slot-refusal n own k ≡ 0 → (1 ≤ k) × (k ≤ n)
 unfolding slot-refusal
 slot-inside n own k e = between 1 k n (or-split _ _ (line-zero 8 _ (omega arith) e) .0)
+
+pub slot-other : (n own k : ℕ) → slot-refusal n own k ≡ 0 → (k ≡ own → ⊥)
+unfolding slot-refusal
+slot-other n own k e = eqb-false k own (or-split (not (leb 1 k && leb k n)) (eqb k own) (line-zero 8 _ (omega arith) e) .1)
 
 pub record Opens (s : Settings) (k : ℕ) (v : Value) : Type 0 where
   pub fine : settings-refusal s ≡ 0

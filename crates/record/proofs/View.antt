@@ -6,6 +6,7 @@ use mathlib.Core.List.{List, [], _∷_, map}
 use mathlib.Core.Logic.{inl, inr}
 use mathlib.Core.Option.{Option, none, some}
 use Prim.Native.Nat.{ℕ, zero, suc, _+_, _-_, _≤_, _<_}
+use native.Mathlib.Numerals.{add-one}
 use native.Mathlib.Omega.{arith}
 use lib.Dec.{eqb}
 use lib.ListN.{length, getD, set, take, replicate, length-map, List·getD-map}
@@ -19,11 +20,12 @@ use Rattle.code.specs.Entry.{values-in}
 use Rattle.code.proofs.ValidSettings.{sizes}
 use Rattle.grading.specs.Value.{Value}
 use Rattle.grading.specs.Held.{held-in}
+use Rattle.grading.proofs.Value.{take-replicate}
 use Rattle.record.specs.Frame.{header-size, longest-frame, operand-size, frame-size, round-in, operand-in}
-use Rattle.record.specs.Record.{who-as, found-as, nothing-found, opened, no-frames, taken-at, is-taken, frames-of, frame-at, In-time, with-operand, with-frame, with-refused, raised, refused-at}
+use Rattle.record.specs.Record.{who-as, found-as, nothing-found, opened, no-frames, taken-at, is-taken, frames-of, frame-at, In-time, with-operand, with-frame, next-round, none-refused, with-refused, raised, count-at, one-more}
 use Rattle.record.specs.Refusal.{take-refusal}
 use Rattle.record.specs.View.{settings-of, who-in, frame-in, frames-in, found-in, view}
-use Rattle.record.specs.Stored.{no-slot, frame-slot, identity, opened-column, slots-with, with-slot, with-count}
+use Rattle.record.specs.Stored.{no-slot, frame-slot, identity, opened-column, slots-with, with-slot, with-counts, one-on}
 use Rattle.record.specs.Steps.Due.{there-by}
 use Rattle.record.specs.declared.Slot.{Slot}
 use Rattle.record.specs.declared.Findings.{Findings}
@@ -116,10 +118,11 @@ no-slots s m h = frames-none s m most-columns no-slot refl h
 
 -- a record as opening makes it
 pub view-opened : (n t w k run : ℕ) (v : Value) → Opens (settings n t w) k v → view (opened-column (identity n t w k run v)) ≡ opened (settings n t w) k run v
-unfolding view who-in found-in settings-of settings value-size opened-column identity opened nothing-found padded
+unfolding view who-in found-in settings-of settings value-size opened-column identity opened nothing-found none-refused padded
 view-opened n t w k run v o =
     let s = settings n t w in
-    rw (no-slots s 1 (sizes s (o .fine) .few-columns), no-slots s 2 (sizes s (o .fine) .few-columns), front-value v (replicate value-room 0) w (o .size)) refl
+    let few = sizes s (o .fine) .few-columns in
+    rw (no-slots s 1 few, no-slots s 2 few, take-replicate {A = ℕ} n most-columns 0 few, front-value v (replicate value-room 0) w (o .size)) refl
 
 -- V, Y, values and confidences, and what rounds two and three told
 module _ (s : Settings) (m : ℕ) (f : Findings) where
@@ -169,7 +172,23 @@ view-slot c k bs e =
           (λ f. taken .fits .size ∙ ap (frame-size s) (in-time-next (taken .due) (not-true _ f))),
     )
 
--- the count
-pub view-refused : (c : Column) (k : ℕ) → view (with-count c (raised (c .refused))) ≡ with-refused (view c) k
-unfolding view with-count with-refused refused-at
-view-refused c k = refl
+-- one more frame refused
+counts-read : (n k : ℕ) (cs : List ℕ) → 1 ≤ k → k ≤ n → take n (one-more cs k) ≡ one-more (take n cs) k
+unfolding one-more count-at
+counts-read n k cs low high =
+    take-set-lt n cs (k - 1) _ (omega arith) ∙ ap (λ (a : ℕ). set (take n cs) (k - 1) (raised a)) (sym (getD-take n cs (k - 1) 0 (omega arith)))
+
+pub view-refused : (c : Column) (k : ℕ) → 1 ≤ k → k ≤ c .who .n → view (with-counts c (one-more (c .refused) k)) ≡ with-refused (view c) k
+unfolding view settings-of settings with-counts with-refused
+view-refused c k low high = rw (counts-read (c .who .n) k (c .refused) low high) refl
+
+-- one round on: frames that came early count, none has come early yet, and the counts are as before
+pub view-one-on :
+    (c : Column) (f : Findings) → c .who .n ≤ most-columns → view (one-on c f) ≡ next-round (view c) (found-in (settings-of (c .who)) (c .round + 1) f)
+unfolding view one-on next-round who-in who-as settings-of settings
+view-one-on c f few =
+    let s = settings-of (c .who) in
+    let frames = ap (λ (m : ℕ). frames-in s m (c .early)) (add-one (c .round)) in
+    let early = no-slots s (suc (c .round + 1)) few in
+    let round = add-one (c .round) in
+    cc

@@ -50,22 +50,27 @@ unfoldable pub nothing-found : Found
 nothing-found = found-as [] [] [] [] []
 
 -- the record: who the column is; what came in, by slot, as operands: the frames of this round, and those of the round that follows, which
--- came early; what it has found; its round, 1 to 4, where 4 is finished; the count of refused frames
+-- came early; what it has found; its round, 1 to 4, where 4 is finished; and how many of its frames were refused, by slot
 pub record Rec : Type 0 where
   pub who : Who
   pub frames : List (Option (List ℕ))
   pub early : List (Option (List ℕ))
   pub found : Found
   pub round : ℕ
-  pub refused : ℕ
+  pub refused : List ℕ
 
 -- no frame there, in any of n slots
 unfoldable pub no-frames : Settings → List (Option (List ℕ))
 no-frames s = replicate (s .n) none
 
--- a record as opening makes it: round one, the refused count 0
+-- nothing refused yet, of any of n slots
+unfoldable pub none-refused : Settings → List ℕ
+none-refused s = replicate (s .n) 0
+
+-- a record as opening makes it: round one, and every count of refused frames 0
 unfoldable pub opened : Settings → (number run : ℕ) → (own : Value) → Rec
-opened s k run v = record { who = who-as s k run v; frames = no-frames s; early = no-frames s; found = nothing-found; round = 1; refused = 0 }
+opened s k run v =
+    record { who = who-as s k run v; frames = no-frames s; early = no-frames s; found = nothing-found; round = 1; refused = none-refused s }
 
 -- the frame in a slot, if there is one; slots count from 1
 unfoldable pub taken-at : List (Option (List ℕ)) → (slot : ℕ) → Option (List ℕ)
@@ -93,17 +98,26 @@ In-time m p = (p ≡ m) ⊎ (p ≡ suc m)
 unfoldable pub counted : Rec → (slot : ℕ) → Option (List ℕ)
 counted r k = taken-at (r .frames) k
 
--- the count of refused frames, as it is read for a slot: one count serves them all
-unfoldable pub refused-at : Rec → (slot : ℕ) → ℕ
-refused-at r k = r .refused
+-- the top of a count, which has 32 bits
+abbrev pub count-top : ℕ
+count-top = 4294967295
 
--- one more in a count of 32 bits that stays at its top
+-- one more in a count that stays at its top
 unfoldable pub raised : ℕ → ℕ
-raised n = cond (ltb n 4294967295) (suc n) n
+raised n = cond (ltb n count-top) (suc n) n
+
+-- the count of a slot; slots count from 1
+unfoldable pub count-at : (counts : List ℕ) → (slot : ℕ) → ℕ
+count-at cs k = getD cs (k - 1) 0
+
+-- counts by slot with one more in this one
+unfoldable pub one-more : (counts : List ℕ) → (slot : ℕ) → List ℕ
+one-more cs k = set cs (k - 1) (raised (count-at cs k))
 
 -- the record with one more frame refused, that came in this slot
 unfoldable pub with-refused : Rec → (slot : ℕ) → Rec
-with-refused r k = record { who = r .who; frames = r .frames; early = r .early; found = r .found; round = r .round; refused = raised (refused-at r k) }
+with-refused r k =
+    record { who = r .who; frames = r .frames; early = r .early; found = r .found; round = r .round; refused = one-more (r .refused) k }
 
 -- frames by slot with the operand of one more, if it is one of theirs
 unfoldable pub with-operand : (theirs : Bool) → List (Option (List ℕ)) → (slot : ℕ) → (operand : List ℕ) → List (Option (List ℕ))

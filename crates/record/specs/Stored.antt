@@ -1,5 +1,5 @@
--- Every byte of the record that the program holds: as opening makes it, with one more frame, with another count, one round on. Bytes
--- that hold nothing are 0. Assumes nothing: these are definitions.
+-- Every byte of the record that the program holds: as opening makes it, with one more frame, with one more frame refused, one round on.
+-- Bytes that hold nothing are 0. Assumes nothing: these are definitions.
 use mathlib.Core.Bool.{Bool, cond, not}
 use mathlib.Core.List.{List, []}
 use Prim.Native.Nat.{ℕ, _+_, _-_}
@@ -10,7 +10,7 @@ use Rattle.code.specs.Size.{most-columns, value-room, vector-room}
 use Rattle.code.specs.Vector.{glued}
 use Rattle.grading.specs.Held.{held-values, held-confidences}
 use Rattle.record.specs.Frame.{longest-frame, round-in}
-use Rattle.record.specs.Record.{Found, raised}
+use Rattle.record.specs.Record.{Found, one-more}
 use Rattle.record.specs.Refusal.{frame-fault}
 use Rattle.record.specs.declared.Identity.{Identity}
 use Rattle.record.specs.declared.Slot.{Slot}
@@ -25,6 +25,10 @@ no-slot = record { taken = 0; bytes = replicate longest-frame 0 }
 -- slots in which nothing came
 abbrev pub empty-slots : List Slot
 empty-slots = replicate most-columns no-slot
+
+-- counts of refused frames, of which there is none
+abbrev pub empty-counts : List ℕ
+empty-counts = replicate most-columns 0
 
 -- a slot with a frame: zeros behind it
 unfoldable pub frame-slot : (frame : List ℕ) → Slot
@@ -60,11 +64,11 @@ identity n t w k run v = record { n = n; t = t; w = w; number = k; run = run; ow
 -- no column: every byte is 0, so that each call on it is refused
 unfoldable pub no-column : Column
 no-column =
-    record { who = identity 0 0 0 0 0 []; slots = empty-slots; early = empty-slots; found = no-findings; round = 0; refused = 0 }
+    record { who = identity 0 0 0 0 0 []; slots = empty-slots; early = empty-slots; found = no-findings; round = 0; refused = empty-counts }
 
 -- a column as opening makes it
 unfoldable pub opened-column : Identity → Column
-opened-column i = record { who = i; slots = empty-slots; early = empty-slots; found = no-findings; round = 1; refused = 0 }
+opened-column i = record { who = i; slots = empty-slots; early = empty-slots; found = no-findings; round = 1; refused = empty-counts }
 
 -- slots with one more frame, if it is one of theirs
 unfoldable pub slots-with : (theirs : Bool) → List Slot → (slot : ℕ) → (frame : List ℕ) → List Slot
@@ -82,13 +86,13 @@ with-slot c k bs =
       refused = c .refused;
     }
 
--- a column with another count of refused frames
-unfoldable pub with-count : Column → (refused : ℕ) → Column
-with-count c k = record { who = c .who; slots = c .slots; early = c .early; found = c .found; round = c .round; refused = k }
+-- a column with other counts of refused frames
+unfoldable pub with-counts : Column → (refused : List ℕ) → Column
+with-counts c cs = record { who = c .who; slots = c .slots; early = c .early; found = c .found; round = c .round; refused = cs }
 
--- a column after a refusal: as before, but for the count under 9 to 15
-unfoldable pub after-refusal : (answer : ℕ) → Column → Column
-after-refusal a c = cond (frame-fault a) (with-count c (raised (c .refused))) c
+-- a column after a frame that came in a slot is refused: as before, but for the slot's count under 9 to 15
+unfoldable pub after-refusal : (answer slot : ℕ) → Column → Column
+after-refusal a k c = cond (frame-fault a) (with-counts c (one-more (c .refused) k)) c
 
 -- what a closing writes of what is found then: V in round one, Y in two, values and confidences in three, and what rounds two and three
 -- told when they are closed; every other array is as before

@@ -49,10 +49,10 @@ view c =
       early = frames-in s (suc (c .round)) (c .early);
       found = found-in s (c .round) (c .found);
       round = c .round;
-      refused = c .refused;
+      refused = take (s .n) (c .refused);
     }
 
 -- a record by what came in alone: who the column is, its round and its slots
 unfoldable pub inbox : Identity → (round : ℕ) → List Slot → Rec
 inbox i m slots =
-    record { who = who-in i; frames = frames-in (settings-of i) m slots; early = []; found = nothing-found; round = m; refused = 0 }
+    record { who = who-in i; frames = frames-in (settings-of i) m slots; early = []; found = nothing-found; round = m; refused = [] }

@@ -54,7 +54,7 @@ pub struct Findings {
 }
 
 // A record: who the column is, what came in by slot, for its round and early for the one that follows, what it has found, its round, 1
-// to 4, and the count of refused frames.
+// to 4, and how many of its frames were refused, by slot.
 #[repr(C)]
 pub struct Column {
     pub who: Identity,
@@ -62,7 +62,7 @@ pub struct Column {
     pub early: [Slot; MOST_COLUMNS],
     pub found: Findings,
     pub round: u32,
-    pub refused: u32,
+    pub refused: [u32; MOST_COLUMNS],
 }
 
 // What a call that changes the record answers: 0 or the number of the refusal, and the record.
@@ -110,7 +110,7 @@ pub fn empty() -> Column
         early: slots,
         found,
         round: 0,
-        refused: 0,
+        refused: [0u32; MOST_COLUMNS],
     }
 }
 

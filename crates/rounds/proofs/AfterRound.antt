@@ -4,8 +4,7 @@ use mathlib.Core.Path.{_≡_, refl, sym, _∙_, ap, subst}
 use mathlib.Core.Bool.{Bool, true, false, cond}
 use mathlib.Core.List.{List, []}
 use mathlib.Core.Option.{Option}
-use Prim.Native.Nat.{ℕ, suc, _+_, _*_, _-_, _≤_, _<_}
-use native.Mathlib.Numerals.{add-one}
+use Prim.Native.Nat.{ℕ, _+_, _*_, _-_, _≤_, _<_}
 use native.Mathlib.Omega.{arith}
 use lib.Dec.{eqb}
 use lib.ListN.{length, getD, take, replicate}
@@ -36,7 +35,7 @@ use Rattle.record.specs.declared.Findings.{Findings}
 use Rattle.record.specs.declared.Column.{Column}
 use Rattle.record.proofs.Refusal.{record-settings, record-number}
 use Rattle.rounds.proofs.Rows.{row-alike}
-use Rattle.record.proofs.View.{no-slots, frames-at, found-heard, found-agreed, found-two}
+use Rattle.record.proofs.View.{frames-at, found-heard, found-agreed, found-two, view-one-on}
 
 -- a column whose record is not refused
 pub record Inside (i : Identity) : Type 0 where
@@ -137,15 +136,6 @@ heard-view c e = rw e refl
 
 -- the record one round on
 module _ (c : Column) (i : Inside (c .who)) where
-  one-on-view : (f : Findings) → view (one-on c f) ≡ next-round (view c) (found-in (settings-of (c .who)) (c .round + 1) f)
-  unfolding view one-on next-round who-in who-as settings-of settings
-  one-on-view f =
-      let s = settings-of (c .who) in
-      let frames = ap (λ (m : ℕ). frames-in s m (c .early)) (add-one (c .round)) in
-      let early = no-slots s (suc (c .round + 1)) (i .few-columns) in
-      let round = add-one (c .round) in
-      cc
-
   -- what is found, by how it reads
   pub finds-of :
       (m : ℕ) (f : Findings) (q : Found) → c .round ≡ m → found-in (settings-of (c .who)) (m + 1) f ≡ q → Closed m (view c) (next-round (view c) q) →
@@ -153,7 +143,7 @@ module _ (c : Column) (i : Inside (c .who)) where
   unfolding next-round
   finds-of m f q e read closed bytes =
       let now : view (one-on c f) ≡ next-round (view c) q =
-      one-on-view f ∙ ap (next-round (view c)) (ap (λ (k : ℕ). found-in (settings-of (c .who)) (k + 1) f) e ∙ read) in
+      view-one-on c f (i .few-columns) ∙ ap (next-round (view c)) (ap (λ (k : ℕ). found-in (settings-of (c .who)) (k + 1) f) e ∙ read) in
       record {
         reads = subst (λ (k : ℕ). Closed k (view c) (view (one-on c f))) (sym e) (subst (Closed m (view c)) (sym now) closed);
         bytes =

@@ -12,7 +12,7 @@ use Rattle.code.specs.Polynomial.{generator}
 use Rattle.code.specs.Vector.{has-checks}
 use Rattle.code.specs.Repair.{Repaired, changed-places, No-repair, Tried, Tried-planes}
 use Rattle.grading.specs.Held.{Held, held-as}
-use Rattle.record.specs.Record.{Rec, who-as, found-as, no-frames, opened}
+use Rattle.record.specs.Record.{Rec, who-as, found-as, no-frames, none-refused, opened}
 use Rattle.record.specs.Refusal.{open-refusal, ask-refusal}
 use Rattle.rounds.specs.Exchange.{Closed}
 use Rattle.column.specs.Call.{Call, Run}
@@ -61,7 +61,7 @@ in-round-two n t k vs fs =
       early = no-frames (settings n t 1);
       found = found-as (single vs) [] [] [] [];
       round = 2;
-      refused = 0;
+      refused = none-refused (settings n t 1);
     }
 
 -- what a case says

@@ -25,7 +25,7 @@ column-past =
       early = [];
       found = record { heard = []; agreed = []; values = []; confidences = []; «told_two» = []; «told_three» = [] };
       round = 0;
-      refused = 0;
+      refused = [];
     }
 
 -- the record of a column, of all that the program holds

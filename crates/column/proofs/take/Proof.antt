@@ -13,27 +13,19 @@ use Rattle.code.specs.Settings.{settings, settings-refusal}
 use Rattle.code.specs.Size.{most-columns}
 use Rattle.code.proofs.ValidSettings.{sizes}
 use Rattle.record.specs.Frame.{longest-frame, round-in}
-use Rattle.record.specs.Record.{raised, who-as}
+use Rattle.record.specs.Record.{raised, who-as, count-at, one-more}
 use Rattle.record.specs.Refusal.{first-of, record-refusal, round-refusal, slot-refusal, frame-refusal, take-refusal, frame-fault}
 use Rattle.record.specs.View.{settings-of, who-in, view}
-use Rattle.record.specs.Stored.{frame-slot, slots-with, with-slot, with-count, after-refusal}
+use Rattle.record.specs.Stored.{frame-slot, slots-with, with-slot, with-counts}
 use Rattle.record.specs.declared.Slot.{Slot}
 use Rattle.record.specs.declared.Column.{Column}
 use Rattle.record.proofs.Refusal.{first-of-zero, first-of-here, first-of-next, first-of-last, slot-inside, record-settings}
-use Rattle.record.proofs.FrameRefusal.{taken-of, take-lines, frame-four, before-frame-low, uncounted, frame-counts, frame-refusal-there}
+use Rattle.record.proofs.FrameRefusal.{taken-of, take-lines, frame-four, frame-refusal-there}
+use Rattle.record.proofs.FrameFaults.{uncounted, counted, before-frame, frame-counts}
 use Rattle.record.proofs.Size.{frame-fits-slot}
 use Rattle.record.proofs.View.{slot-there}
 use Rattle.column.proofs.take.Statement.{statement}
 use Rattle.column.proofs.take.Tie as tie
-
--- a refusal that does not count, and one that does
-kept : (a : ℕ) (c : Column) → frame-fault a ≡ false → c ≡ after-refusal a c
-unfolding after-refusal
-kept a c h = rw h refl
-
-counted : (a : ℕ) (c : Column) → frame-fault a ≡ true → with-count c (raised (c .refused)) ≡ after-refusal a c
-unfolding after-refusal
-counted a c h = rw h refl
 
 -- what the lines before the frame's own give
 lines-before :
@@ -52,7 +44,7 @@ returns-4 c =
     record {
       answered = sym (take-lines (view (a .t1)) (a .slot) (a .frame .now) ∙ first-of-here _ (sym e) number);
       done = λ z. absurd (number z);
-      refused = λ z. kept _ (a .t1) (uncounted _ (rw e (before-frame-low (who-in (a .t1 .who)) (a .t1 .round) (a .slot))));
+      refused = λ z. sym (uncounted _ _ (a .t1) (rw e (before-frame (who-in (a .t1 .who)) (a .t1 .round) (a .slot))));
     }
 
 -- past those lines
@@ -109,17 +101,25 @@ frame-answer c =
     ∙ frame-refusal-there _ _ _ _ _ _ (a .frame .now)
     (slot-there (a .t1) (round-in (a .frame .now)) (a .slot) (record { taken = 0; bytes = [] }) refl (h .low) (h .high)))
 
+element-copy-out-raised : tie.Need-element-copy-out-raised
+element-copy-out-raised c = omega (arith, passed (else-at (c .before)))
+
+element-write-column : tie.Need-element-write-column
+element-write-column c = omega (arith, passed (else-at (c .before .before .before)))
+
 returns-3 : tie.Need-returns-3
-unfolding with-count
+unfolding with-counts one-more count-at
 returns-3 c =
-    let f = c .before .before in
+    let e = c .before .before in
+    let f = e .before in
     let a = start (else-at f) .args in
-    let number = c .before .if2 .left in
+    let number = e .if2 .left in
     let counts : frame-fault (f .frame-refusal .result) ≡ true = rw (f .frame-refusal .ensures) (frame-counts _ _ _ _ _ _ (λ z. number (f .frame-refusal .ensures ∙ z))) in
     record {
       answered = frame-answer f;
       done = λ z. absurd (number z);
-      refused = λ z. ap (with-count (a .t1)) (c .raised .ensures) ∙ counted _ (a .t1) counts;
+      refused =
+          λ z. ap (λ (n : ℕ). with-counts (a .t1) (set (a .t1 .refused) (a .slot - 1) n)) (c .raised .ensures) ∙ sym (counted _ (a .slot) (a .t1) counts);
     }
 
 -- nothing is refused
@@ -214,7 +214,11 @@ take-spec =
     element-set-from-filled
     (λ c. search needs)
     element-set-from-filled-2
+    (λ c. search needs)
+    element-copy-out-raised
     (λ c κs. search needs)
+    (λ c. search needs)
+    element-write-column
     returns
     returns-2
     returns-3

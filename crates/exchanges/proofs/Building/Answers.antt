@@ -22,19 +22,8 @@ use Rattle.gradecast.proofs.Built.{step-leads}
 use Rattle.exchanges.proofs.Testing.Stepping.{Claims, after-call, call-test, answer, run-test, answers, call-leads}
 use Rattle.exchanges.proofs.Testing.Conditions.{Script, opening, good, Plays}
 
--- the answer of a step, and of each step of a run
-unfoldable pub step-answer : {c d : Column} {x : Call} → Built-step c x d → ℕ
-step-answer (takes c d slot a frame says) = a
-step-answer (sends c a buffer buffer-now says) = a
-step-answer (closes c d a says) = a
-step-answer (asks c h says) = h .answer
-
-unfoldable pub run-answers : {c d : Column} {xs : List Call} → Built-run c xs d → List ℕ
-run-answers (no-step c) = []
-run-answers (one-step c d e x xs step rest) = step-answer step ∷ run-answers rest
-
-step-answered : {c d : Column} {x : Call} (step : Built-step c x d) → step-answer step ≡ answer x (view c)
-unfolding step-answer answer
+step-answered : {c d : Column} {x : Call} {a : ℕ} → Built-step c x a d → a ≡ answer x (view c)
+unfolding answer
 step-answered (takes c d slot a frame says) = says .answered
 step-answered (sends c a buffer buffer-now says) = says .answered
 step-answered (closes c d a says) = says .answered
@@ -42,11 +31,11 @@ step-answered (asks c h says) = says .answered
 
 module _ (s : Settings) (k run : ℕ) (v : Value) (o : Opens s k v) (cl : Claims) where
   answers-follow :
-      {c d : Column} {xs : List Call} (r : Rec) → view c ≡ r → Proper s k run v r → run-test cl xs r ≡ true → (steps : Built-run c xs d) →
-      run-answers steps ≡ answers cl xs r
-  unfolding run-answers answers run-test
+      {c d : Column} {xs : List Call} {as-built : List ℕ} (r : Rec) → view c ≡ r → Proper s k run v r → run-test cl xs r ≡ true →
+      Built-run c xs as-built d → as-built ≡ answers cl xs r
+  unfolding answers run-test
   answers-follow r e p t (no-step c) = refl
-  answers-follow r e p t (one-step c d f x xs step rest) =
+  answers-follow r e p t (one-step c d f x xs a more step rest) =
       let both = and-split (call-test cl x r) _ t in
       let leads = call-leads cl x r (both .0) in
       ap₂ _∷_ (step-answered step ∙ ap (answer x) e)
@@ -56,8 +45,8 @@ module _ (s : Settings) (k run : ℕ) (v : Value) (o : Opens s k v) (cl : Claims
 
 -- of a column as built
 built-answers :
-    (s : Settings) (run : ℕ) (cl : Claims) (b : Built) (r : Built-ran s run b) → run-test cl (b .calls) (opened s (b .number) run (b .own)) ≡ true →
-    run-answers (r .steps) ≡ answers cl (b .calls) (opened s (b .number) run (b .own))
+    (s : Settings) (run : ℕ) (cl : Claims) (b : Built) → Built-ran s run b → run-test cl (b .calls) (opened s (b .number) run (b .own)) ≡ true →
+    b .answers ≡ answers cl (b .calls) (opened s (b .number) run (b .own))
 unfolding settings
 built-answers s run cl b r t =
     answers-follow s (b .number) run (b .own) o cl (opened s (b .number) run (b .own)) first (proper-open s (b .number) run (b .own) o) t (r .steps)
@@ -69,13 +58,9 @@ built-answers s run cl b r t =
     first = ap view (r .opening .done refl) ∙ view-opened (s .n) (s .t) (s .w) (b .number) run (b .own) o
 
 -- of a list of columns as built, which run the lists of the columns as defined
-unfoldable pub all-answers : (s : Settings) (run : ℕ) (bs : List Built) → ((b : Built) → Among b bs → Built-ran s run b) → List (List ℕ)
-all-answers s run [] r = []
-all-answers s run (b ∷ bs) r = run-answers (r b (first bs) .steps) ∷ all-answers s run bs (λ a i. r a (other b bs i))
-
 answers-of-script :
-    (s : Settings) (run : ℕ) (p : Script) (b : Built) (r : Built-ran s run b) → Plays s run p → defined b ≡ good s run p →
-    run-answers (r .steps) ≡ answers (p .claims) (p .calls) (opening s run p)
+    (s : Settings) (run : ℕ) (p : Script) (b : Built) → Built-ran s run b → Plays s run p → defined b ≡ good s run p →
+    b .answers ≡ answers (p .claims) (p .calls) (opening s run p)
 unfolding defined good opening
 answers-of-script s run p b r plays e =
     let number = ap (λ (g : Good). g .number) e in
@@ -84,10 +69,9 @@ answers-of-script s run p b r plays e =
     built-answers s run (p .claims) b r (rw (number, own, calls) (plays .runs)) ∙ rw (number, own, calls) refl
 
 pub answers-listed :
-    (s : Settings) (run : ℕ) (ps : List Script) (bs : List Built) (r : (b : Built) → Among b bs → Built-ran s run b) →
+    (s : Settings) (run : ℕ) (ps : List Script) (bs : List Built) → ((b : Built) → Among b bs → Built-ran s run b) →
     map defined bs ≡ map (good s run) ps → ((p : Script) → Among p ps → Plays s run p) →
-    all-answers s run bs r ≡ map (λ p. answers (p .claims) (p .calls) (opening s run p)) ps
-unfolding all-answers
+    map (λ b. b .answers) bs ≡ map (λ p. answers (p .claims) (p .calls) (opening s run p)) ps
 answers-listed s run [] [] r e plays = refl
 answers-listed s run [] (b ∷ bs) r e plays = absurd (let z : _≡_ {A = ℕ} 0 1 = cc in omega arith)
 answers-listed s run (p ∷ ps) [] r e plays = absurd (let z : _≡_ {A = ℕ} 0 1 = cc in omega arith)

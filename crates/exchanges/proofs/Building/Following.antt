@@ -25,7 +25,7 @@ use Rattle.record.specs.Refusal.{take-refusal, send-refusal, close-refusal, ask
 use Rattle.rounds.specs.Exchange.{Table, Closed}
 use Rattle.column.specs.Call.{Call, taking, sending, closing, asking, After-close, Leads, Run, no-call, one-call, Passes, here, later, Frame-of}
 use Rattle.record.specs.View.{settings-of, who-in, found-in, view}
-use Rattle.record.specs.Stored.{no-holdings, with-slot, with-count, after-refusal, found-now, one-on}
+use Rattle.record.specs.Stored.{no-holdings, with-slot, with-counts, after-refusal, found-now, one-on}
 use Rattle.column.specs.Entry.{Take-says, Send-says, Close-says, Result-says}
 use Rattle.rounds.specs.Steps.Closing.{Finds}
 use Rattle.record.specs.declared.Findings.{Findings}
@@ -58,17 +58,17 @@ Stored c = c .round ≡ 4 → Stores-held (settings-of (c .who)) (view c .found 
 -- taking
 take-built :
     (c : Column) (k : ℕ) (bs : List ℕ) → Stored c → (d : Column) × Take-says c k bs (take-refusal (view c) k bs) d × Stored d
-unfolding Stored view with-slot after-refusal with-count
+unfolding Stored view with-slot after-refusal with-counts
 take-built c k bs stored = go (eqb (take-refusal (view c) k bs) 0) refl
   where
-    counted-stored : (q : Bool) (a : ℕ) → Stored (cond q (with-count c a) c)
-    counted-stored true a = stored
-    counted-stored false a = stored
+    counted-stored : (q : Bool) (cs : List ℕ) → Stored (cond q (with-counts c cs) c)
+    counted-stored true cs = stored
+    counted-stored false cs = stored
 
     go : (q : Bool) → eqb (take-refusal (view c) k bs) 0 ≡ q → (d : Column) × Take-says c k bs (take-refusal (view c) k bs) d × Stored d
     go true f = let e = eqb-true _ _ f in (with-slot c k bs, record { answered = refl; done = λ z. refl; refused = λ z. absurd (z e) }, stored)
     go false f = (
-      after-refusal (take-refusal (view c) k bs) c,
+      after-refusal (take-refusal (view c) k bs) k c,
       record { answered = refl; done = λ z. absurd (eqb-false _ _ f z); refused = λ z. refl },
       counted-stored (frame-fault (take-refusal (view c) k bs)) _,
     )
@@ -209,30 +209,31 @@ module _ (s : Settings) (k run : ℕ) (v : Value) (o : Opens s k v) where
   -- a step, of any call
   step-built :
       (x : Call) (c : Column) (q : Rec) → Proper s k run v (view c) → Stored c → Can-send x (view c) → Leads x (view c) q →
-      (d : Column) × Built-step c x d × (view d ≡ q) × Stored d
+      (d : Column) × (answer : ℕ) × Built-step c x answer d × (view d ≡ q) × Stored d
   unfolding Leads Can-send
   step-built (taking j bs) c q p stored f l =
-      let x = take-built c j bs stored in (x .0, takes c (x .0) j _ bs (x .1), take-reads c (x .0) j _ bs (x .1) ∙ sym l, x .2)
+      let x = take-built c j bs stored in (x .0, _, takes c (x .0) j _ bs (x .1), take-reads c (x .0) j _ bs (x .1) ∙ sym l, x .2)
   step-built (sending room) c q p stored f l =
       let long = length-replicate {A = ℕ} room 0 in
       let x = send-built c (replicate room 0) (λ z. f (sym (ap (send-refusal (view c)) long) ∙ z)) in
-      (c, subst (λ (m : ℕ). Built-step c (sending m) c) long (sends c _ (replicate room 0) (x .0) (x .1)), sym l, stored)
+      let answer = send-refusal (view c) (length (replicate {A = ℕ} room 0)) in
+      (c, answer, subst (λ (m : ℕ). Built-step c (sending m) answer c) long (sends c answer (replicate room 0) (x .0) (x .1)), sym l, stored)
   step-built closing c q p stored f l =
       let x = close-built c q p stored l in
-      (x .0, closes c (x .0) _ (x .1), leads-unique s k run v o closing (view c) (view (x .0)) q p (x .1 .reads) l, x .2)
-  step-built asking c q p stored f l = let x = result-built c stored in (c, asks c (x .0) (x .1), sym l, stored)
+      (x .0, _, closes c (x .0) _ (x .1), leads-unique s k run v o closing (view c) (view (x .0)) q p (x .1 .reads) l, x .2)
+  step-built asking c q p stored f l = let x = result-built c stored in (c, _, asks c (x .0) (x .1), sym l, stored)
 
   -- a list of them
   pub run-built :
       {r z : Rec} {xs : List Call} (c : Column) → view c ≡ r → Proper s k run v r → Stored c → Sendable r xs → Run r xs z →
-      (d : Column) × Built-run c xs d × (view d ≡ z) × Stored d
+      (d : Column) × (answers : List ℕ) × Built-run c xs answers d × (view d ≡ z) × Stored d
   unfolding Sendable
-  run-built c e p stored f (no-call r) = (c, no-step c, e, stored)
+  run-built c e p stored f (no-call r) = (c, [], no-step c, e, stored)
   run-built c e p stored f (one-call r q z x xs l rest) =
       let step =
       step-built x c q (subst (Proper s k run v) (sym e) p) stored (subst (Can-send x) (sym e) (f r x xs (here r (x ∷ xs))))
       (subst (λ (y : Rec). Leads x y q) (sym e) l) in
       let more =
-      run-built (step .0) (step .2) (proper-step s k run v o x r q p (step-of x r q l)) (step .3)
+      run-built (step .0) (step .3) (proper-step s k run v o x r q p (step-of x r q l)) (step .4)
       (λ at y ys w. f at y ys (later r q at x xs (y ∷ ys) l w)) rest in
-      (more .0, one-step c (step .0) (more .0) x xs (step .1) (more .1), more .2, more .3)
+      (more .0, step .1 ∷ more .1, one-step c (step .0) (more .0) x xs (step .1) (more .1) (step .2) (more .2), more .3, more .4)

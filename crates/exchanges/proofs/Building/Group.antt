@@ -42,14 +42,14 @@ pub followed : (s : Settings) (run : ℕ) (g : Good) → Ran s run g → of-byte
 unfolding defined settings of-bytes
 followed s run g r e =
     record {
-      built = record { number = g .number; own = g .own; first = start; calls = g .calls; last = end .0 };
+      built = record { number = g .number; own = g .own; first = start; calls = g .calls; answers = end .1; last = end .0 };
       ran =
           record {
             opening = record { answered = sym (r .opens); done = λ z. refl; refused = λ z. absurd (z refl) };
-            steps = end .1;
+            steps = end .2;
           };
-      same = ap (λ (z : Rec). record { number = g .number; own = g .own; calls = g .calls; last = z }) (end .2);
-      stored = end .3;
+      same = ap (λ (z : Rec). record { number = g .number; own = g .own; calls = g .calls; last = z }) (end .3);
+      stored = end .4;
     }
   where
     o : Opens s (g .number) (g .own)
@@ -64,7 +64,7 @@ followed s run g r e =
     bytes : (byte-list (g .own) ≡ true) × (byte-frames (g .calls) ≡ true)
     bytes = and-split (byte-list (g .own)) (byte-frames (g .calls)) e
 
-    end : (d : Column) × Built-run start (g .calls) d × (view d ≡ g .last) × Stored d
+    end : (d : Column) × (answers : List ℕ) × Built-run start (g .calls) answers d × (view d ≡ g .last) × Stored d
     end =
         run-built s (g .number) run (g .own) o start reads (proper-open s (g .number) run (g .own) o) (opened-stored s run g)
         (sendable s (g .number) run (g .own) o (g .calls) (bytes .0) (bytes .1)) (r .leads)

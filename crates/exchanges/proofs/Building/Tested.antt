@@ -20,12 +20,13 @@ use Rattle.exchanges.proofs.Testing.Stepping.{answers}
 use Rattle.exchanges.proofs.Testing.Conditions.{Script, opening, good, every, every-tested, group-test, conditions-tested}
 
 -- what is computed of an exchange: the conditions of demand 3; whether all is bytes; whether all have finished; what each has found, V,
--- Y, values and confidences, and what it was told; what each call answers
+-- Y, values and confidences, and what it was told; how many frames of each slot it refused; what each call answers
 pub record Outcome : Type 0 where
   pub conditions : Bool
   pub bytes : Bool
   pub finished : Bool
   pub found : List Found
+  pub refused : List (List ℕ)
   pub answered : List (List ℕ)
 
 module _ (s : Settings) (run : ℕ) where
@@ -40,6 +41,7 @@ module _ (s : Settings) (run : ℕ) where
         bytes = every of-bytes (goods ps);
         finished = every (λ g. eqb (g .last .round) 4) (goods ps);
         found = map (λ g. g .last .found) (goods ps);
+        refused = map (λ g. g .last .refused) (goods ps);
         answered = map (λ p. answers (p .claims) (p .calls) (opening s run p)) ps;
       }
 

@@ -11,7 +11,7 @@ use Rattle.gradecast.specs.Promise.{Among, numbers, bad-count, Few-told, Agree}
 use Rattle.gradecast.specs.Built.{Built, Built-conditions, defined, answered, Built-gradecast, Built-told}
 use Rattle.gradecast.proofs.Built.{built-gradecast, built-told}
 use Rattle.exchanges.proofs.Building.Following.{result-built}
-use Rattle.exchanges.proofs.Building.Answers.{all-answers, answers-listed}
+use Rattle.exchanges.proofs.Building.Answers.{answers-listed}
 use Rattle.exchanges.proofs.Building.Tested.{goods, tested-columns, tested-same, tested-conditions, tested-finished, tested-stored}
 use Rattle.exchanges.proofs.Testing.Conditions.{good, plays}
 use Rattle.exchanges.proofs.Examples.Exchange.{four, script}
@@ -22,7 +22,7 @@ use Rattle.exchanges.proofs.Examples.Defined.{rough-met, rough-answers}
 unfoldable pub columns : List Built
 columns = tested-columns four 7 rough-scripts rough-met
 
-columns-same : map defined columns ≡ goods four 7 rough-scripts
+pub columns-same : map defined columns ≡ goods four 7 rough-scripts
 unfolding columns
 columns-same = tested-same four 7 rough-scripts rough-met
 
@@ -77,7 +77,7 @@ results-agree g h x i j l =
     }
 
 -- every call of each answers as it is listed
-pub calls-answer : all-answers four 7 columns (columns-conditions .ran) ≡ map says-of rough-lists
+pub calls-answer : map (λ b. b .answers) columns ≡ map says-of rough-lists
 unfolding goods
 calls-answer =
     answers-listed four 7 rough-scripts columns (columns-conditions .ran) columns-same (plays four 7 rough-scripts (rough-met .tested)) ∙ rough-answers
@@ -86,7 +86,7 @@ calls-answer =
 pub record Witness (bs : List Built) : Type 0 where
   pub same : map defined bs ≡ goods four 7 rough-scripts
   pub conditions : Built-conditions four 7 bs
-  pub answers : all-answers four 7 bs (conditions .ran) ≡ map says-of rough-lists
+  pub answers : map (λ b. b .answers) bs ≡ map says-of rough-lists
   pub finished : (b : Built) → Among b bs → b .last .round ≡ 4
   pub agree : (g h x : Built) → Among g bs → Among h bs → Among x bs → Answers-agree g h x
 

@@ -120,5 +120,6 @@ module _ (e : Heights) where
             ∷ radio-found 2 (0 ∷ 0 ∷ 1 ∷ 0 ∷ []) (1 ∷ 0 ∷ 1 ∷ 0 ∷ [])
             ∷ radio-found 3 (1 ∷ 1 ∷ 0 ∷ told-missing ∷ []) (0 ∷ 1 ∷ 0 ∷ told-missing ∷ [])
             ∷ [];
+        refused = replicate 4 0 ∷ replicate 4 0 ∷ replicate 4 0 ∷ [];
         answered = replicate 11 0 ∷ replicate 12 0 ∷ replicate 9 0 ∷ [];
       }
