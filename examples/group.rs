@@ -1,4 +1,5 @@
-//! Four columns, one of which lies: what the good ones believe at the end, and how far off they found each other.
+//! Four columns, one of which lies: what the good ones believe at the end, how far off they found each other, and whose frames were
+//! refused.
 //!
 //!     rt staticlib sajowemi
 //!     cd rust && cargo run --example group
@@ -16,17 +17,28 @@ const LIES: [[&[u8]; 3]; 3] = [
 ];
 const COMMANDS: [u8; 3] = [0x11, 0x22, 0x33];
 
+/// How often columns 1 to 3 hear each frame of columns 1 to 4: column 1's echoes off the truck, and column 4's radio repeats itself.
+const TIMES_HEARD: [[u32; 4]; 3] = [[0, 1, 1, 1], [1, 0, 1, 2], [2, 1, 0, 3]];
+
+/// What the radio hands a column in a slot. A frame that is refused 9 to 15 is counted for its slot, and the column goes on; another
+/// refusal would be this program's fault.
+fn hear(column: &mut Column, slot: u32, frame: &[u8]) -> Result<(), Refusal> {
+    for _ in 0..TIMES_HEARD[column.number() as usize - 1][slot as usize - 1] {
+        match column.take(slot, frame) {
+            Err(fault) if fault.number() < Refusal::FrameCutShort.number() => return Err(fault),
+            _ => (),
+        }
+    }
+    Ok(())
+}
+
 /// A column's frame of its round, to the other good ones: those that have not closed the round before keep it for the next.
 fn send_to_others(columns: &mut [Column], sender: usize) -> Result<(), Refusal> {
     let number = columns[sender].number();
     let mut buffer = [0; LONGEST_FRAME];
     let frame = columns[sender].send(&mut buffer)?;
-    for column in columns
-        .iter_mut()
-        .filter(|column| column.number() != number)
-    {
-        // On the air a refused frame is counted, and the column goes on.
-        column.take(number, frame)?;
+    for column in columns {
+        hear(column, number, frame)?;
     }
     Ok(())
 }
@@ -52,6 +64,18 @@ fn print_told(round: &str, told: impl Fn(u32) -> Option<Told>) {
     println!("  round {round}: {off}");
 }
 
+/// Whose frames were refused: of a frame that is heard more than once, all but the first.
+fn print_refused(column: &Column) {
+    let of_each: Vec<String> = (1..)
+        .map_while(|k| Some((k, column.refused(k)?)))
+        .filter(|(_, count)| *count > 0)
+        .map(|(k, count)| format!("{count} of column {k}"))
+        .collect();
+    let before = if of_each.is_empty() { "" } else { ": " };
+    let in_all = column.refused_in_all();
+    println!("  {in_all} frames refused{before}{}", of_each.join(", "));
+}
+
 fn main() -> Result<(), Refusal> {
     let settings = Settings { n: 4, t: 1, w: 1 };
     let mut columns = Vec::new();
@@ -66,7 +90,7 @@ fn main() -> Result<(), Refusal> {
             }
             send_to_others(&mut columns, k)?;
             let lie = [&[COMMANDS[round], LIAR as u8, 0, RUN], LIES[round][k]].concat();
-            columns[k].take(LIAR, &lie)?;
+            hear(&mut columns[k], LIAR, &lie)?;
         }
     }
     for column in &mut columns {
@@ -79,6 +103,7 @@ fn main() -> Result<(), Refusal> {
         println!();
         print_told("two", |k| beliefs.told_two(k));
         print_told("three", |k| beliefs.told_three(k));
+        print_refused(column);
     }
     Ok(())
 }

@@ -4,9 +4,9 @@
  * memory of their own and may be called from any thread. Each answers every input: 0, or the number of the refusal.
  *
  * A record's bits may be anything: each call checks it again. The calls of the archive take it by value and hand it back in the outcome;
- * the `sajowemi_column_` calls below them change it in place. Of a refusal the record comes back as it was, but for the count of refused
- * frames under 9 to 15, and a lent buffer keeps its bytes. What opening, taking and closing leave is fixed to the byte: where nothing is
- * held there are zeros.
+ * the `sajowemi_column_` calls below them change it in place. Of a refusal the record comes back as it was, but for the slot's count of
+ * refused frames under 9 to 15, and a lent buffer keeps its bytes. What opening, taking and closing leave is fixed to the byte: where
+ * nothing is held there are zeros.
  *
  * A length says how many bytes may be read or written at the pointer before it; with length 0 the pointer is not followed. Buffers that
  * are lent to one call must not overlap each other, nor a record that the call changes in place: a vector is not repaired over itself.
@@ -94,14 +94,17 @@ struct sajowemi_findings {
 };
 
 /* A column's record: who it is, what came in by slot, for its round and early, for the round that follows, what it has found, its round,
- * of which 4 is the end, and the count of refused frames. */
+ * of which 4 is the end, and the counts of refused frames. Of sender k, refused[k - 1] is how many of the frames that came in slot k since
+ * the opening were refused 9 to 15, up to 4,294,967,295, where it stays. Each such call of sajowemi_take raises its own slot's count by one
+ * and no other; nothing else raises any, closing keeps them, and opening leaves zeros. The own slot's and those behind n columns stay 0:
+ * there a frame is refused 8, which is not counted. */
 struct sajowemi_column {
     struct sajowemi_identity who;
     struct sajowemi_slot slots[SAJOWEMI_MOST_COLUMNS];
     struct sajowemi_slot early[SAJOWEMI_MOST_COLUMNS];
     struct sajowemi_findings found;
     uint32_t round;
-    uint32_t refused;
+    uint32_t refused[SAJOWEMI_MOST_COLUMNS];
 };
 
 struct sajowemi_outcome {
@@ -146,7 +149,7 @@ struct sajowemi_outcome sajowemi_open(uint32_t n, uint32_t t, uint32_t w, uint32
                                       size_t own_length);
 
 /* Takes the frame that came in slot k, which is column k's: one of the round, or one of the round that follows, which is kept and counts
- * as taken when that round opens. Refused 1 to 4 or 6 to 15. */
+ * as taken when that round opens. Refused 1 to 4 or 6 to 15; 9 to 15 are the frame's fault, and counted in refused[k - 1]. */
 struct sajowemi_outcome sajowemi_take(struct sajowemi_column column, uint32_t slot, const uint8_t *frame, size_t frame_length);
 
 /* The bytes of the round's frame: 4 + w in round 1, 4 + 2 t w after. 0 where sending is refused for another reason than the buffer. */
@@ -218,6 +221,15 @@ static inline uint32_t sajowemi_column_result(const struct sajowemi_column *colu
 static inline uint32_t sajowemi_column_level(const struct sajowemi_column *column, struct sajowemi_level *level) {
     *level = sajowemi_level(*column);
     return level->answer;
+}
+
+/* How many frames were refused 9 to 15, whatever slot they came in: the sum of the record's counts, which 64 bits hold. As long as none of
+ * them has reached its top, it is how many calls of sajowemi_take since the opening were answered 9 to 15; from then on it may be less. */
+static inline uint64_t sajowemi_column_refused(const struct sajowemi_column *column) {
+    uint64_t sum = 0;
+    for (size_t k = 0; k < SAJOWEMI_MOST_COLUMNS; k++)
+        sum += column->refused[k];
+    return sum;
 }
 
 /* What an answer says, in plain words. */

@@ -3,7 +3,7 @@
 use crate::division::check_values;
 use crate::frames::{command_of, frame};
 use crate::linear;
-use crate::refusals::{Call, Case, answer, count_after};
+use crate::refusals::{Call, Case, answer, count_refusal};
 use std::collections::BTreeMap;
 
 pub type Value = Vec<u8>;
@@ -37,7 +37,8 @@ pub struct Model {
     pub run: u16,
     pub own: Value,
     pub round: u32,
-    pub refused: u32,
+    /// How many frames of each column were refused.
+    pub refused: Vec<u32>,
     /// What came of each column in the round.
     pub operands: Vec<Option<Vec<u8>>>,
     /// What came of each column for the round that follows.
@@ -62,7 +63,7 @@ impl Model {
             run,
             own,
             round: 1,
-            refused: 0,
+            refused: vec![0; n as usize],
             operands: nothing.clone(),
             early: nothing,
             heard,
@@ -108,7 +109,7 @@ impl Model {
             };
             came[slot as usize - 1] = Some(frame[4..].to_vec());
         }
-        self.refused = count_after(answered, self.refused);
+        count_refusal(&mut self.refused, slot, answered);
         answered
     }
 

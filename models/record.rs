@@ -3,7 +3,7 @@
 
 use crate::exchange::{Model, Told, Value};
 use crate::frames::command_of;
-use crate::refusals::{Call, Case, answer, count_after};
+use crate::refusals::{Call, Case, answer, count_refusal};
 
 /// Room in a record: columns, bytes of a value, bytes of a frame.
 const COLUMNS: usize = 32;
@@ -34,7 +34,7 @@ pub struct Record {
     pub told_two: Vec<u8>,
     pub told_three: Vec<u8>,
     pub round: u32,
-    pub refused: u32,
+    pub refused: Vec<u32>,
 }
 
 /// These bytes in front of zeros.
@@ -73,7 +73,7 @@ impl Record {
             told_two: vec![0; COLUMNS],
             told_three: vec![0; COLUMNS],
             round: 0,
-            refused: 0,
+            refused: vec![0; COLUMNS],
         }
     }
 
@@ -127,7 +127,7 @@ impl Record {
     }
 
     /// A frame that is taken stands in its slot, marked 1, of the round or of the one that follows; one that is refused leaves nothing
-    /// but the count.
+    /// but its slot's count.
     pub fn take(&mut self, slot: u32, frame: &[u8]) -> u32 {
         let answered = answer(Call::Take, &self.case(slot, frame));
         if answered == 0 {
@@ -141,7 +141,7 @@ impl Record {
                 bytes: padded(frame, FRAME),
             };
         }
-        self.refused = count_after(answered, self.refused);
+        count_refusal(&mut self.refused, slot, answered);
         answered
     }
 
@@ -208,7 +208,7 @@ impl Record {
             run: self.run,
             own: self.own[..w].to_vec(),
             round: self.round,
-            refused: self.refused,
+            refused: self.refused[..n].to_vec(),
             operands: operands.collect(),
             early: vec![None; n],
             heard: values(&self.heard),

@@ -74,11 +74,11 @@ pub fn answer(call: Call, case: &Case) -> u32 {
         .map_or(0, |line| line.number)
 }
 
-/// The count of refused frames after an answer: one more under 9 to 15, up to its top.
-pub fn count_after(answer: u32, refused: u32) -> u32 {
+/// Counts an answer to a frame of a slot: under 9 to 15 the slot's count is one more, up to its top. These come after 8, so that the slot
+/// has one.
+pub fn count_refusal(refused: &mut [u32], slot: u32, answer: u32) {
     if (9..=15).contains(&answer) {
-        refused.saturating_add(1)
-    } else {
-        refused
+        let count = &mut refused[slot as usize - 1];
+        *count = count.saturating_add(1);
     }
 }

@@ -1,6 +1,7 @@
 /* The header's calls in place beside the archive's calls by value: the same answer, the record behind the pointer as the outcome has it
  * whatever the answer, the same bytes lent, and a record that is only read kept. Records are of random bits, many with settings that
- * pass; between two bytes of another kind, so that a byte written beside them is seen. Two bytes of a record belong to nothing. */
+ * pass; between two bytes of another kind, so that a byte written beside them is seen. Two bytes of a record belong to nothing. And the
+ * header's sum of a record's counts of refused frames. */
 #undef NDEBUG
 #include "sajowemi.h"
 #include <assert.h>
@@ -56,7 +57,8 @@ static void is_answer(uint32_t in_place, uint32_t by_value) {
         refused++;
 }
 
-/* A record of random bits; of seven in eight the settings, number and round pass, and of half of these a value has four bytes. */
+/* A record of random bits; of seven in eight the settings, number and round pass, and of half of these a value has four bytes. A count of
+ * refused frames in four is at its top. */
 static struct sajowemi_column made_by_hand(void) {
     struct sajowemi_column column;
     draw(&column, sizeof column);
@@ -70,6 +72,8 @@ static struct sajowemi_column made_by_hand(void) {
     for (size_t k = 0; k < SAJOWEMI_MOST_COLUMNS; k++) {
         column.slots[k].taken *= below(2);
         column.early[k].taken *= below(2);
+        if (below(4) == 0)
+            column.refused[k] = UINT32_MAX;
     }
     return column;
 }
@@ -81,6 +85,7 @@ static void opened(const struct sajowemi_column *column) {
     struct sajowemi_outcome outcome = sajowemi_open(who->n, who->t, who->w, who->number, who->run, who->own, length);
     is_answer(sajowemi_column_open(&place.column, who->n, who->t, who->w, who->number, who->run, who->own, length), outcome.answer);
     is_record(&place, &outcome.column);
+    assert(sajowemi_column_refused(&place.column) == 0);
 }
 
 /* A frame of the round or of the one that follows, mostly, in a slot that is mostly one of the group's. */
@@ -123,6 +128,7 @@ static void closed(const struct sajowemi_column *column) {
     struct sajowemi_outcome outcome = sajowemi_close(*column);
     is_answer(sajowemi_column_close(&place.column), outcome.answer);
     is_record(&place, &outcome.column);
+    assert(memcmp(place.column.refused, column->refused, sizeof column->refused) == 0);
 }
 
 static void asked(const struct sajowemi_column *column) {
@@ -143,6 +149,31 @@ static void levelled(const struct sajowemi_column *column) {
     is_record(&place, column);
 }
 
+/* The sum of all counts, by their upper and lower halves. */
+static void summed(const struct sajowemi_column *column) {
+    struct guarded place = guarded(column);
+    uint64_t upper = 0, lower = 0;
+    for (size_t k = 0; k < SAJOWEMI_MOST_COLUMNS; k++) {
+        upper += column->refused[k] >> 16;
+        lower += column->refused[k] & 0xffff;
+    }
+    assert(sajowemi_column_refused(&place.column) == (upper << 16) + lower);
+    is_record(&place, column);
+}
+
+/* Each count alone at its top, beside others of 0 and of 1, and all of them, which is more than 32 bits hold. */
+static void summed_at_top(void) {
+    struct sajowemi_column column = made_by_hand();
+    for (size_t at_top = 0; at_top < SAJOWEMI_MOST_COLUMNS; at_top++)
+        for (uint32_t others = 0; others < 2; others++) {
+            for (size_t k = 0; k < SAJOWEMI_MOST_COLUMNS; k++)
+                column.refused[k] = k == at_top ? UINT32_MAX : others;
+            assert(sajowemi_column_refused(&column) == UINT64_C(4294967295) + 31 * others);
+        }
+    memset(column.refused, 0xff, sizeof column.refused);
+    assert(sajowemi_column_refused(&column) == UINT64_C(137438953440));
+}
+
 int main(void) {
     for (int turn = 0; turn < TURNS; turn++) {
         struct sajowemi_column column = made_by_hand();
@@ -151,10 +182,13 @@ int main(void) {
         sent(&column);
         asked(&column);
         levelled(&column);
+        summed(&column);
         if (turn % 8 == 0)
             closed(&column);
     }
+    summed_at_top();
     assert(done > TURNS && refused > TURNS);
-    printf("in_place: the calls in place leave what the calls by value say: %lu done, %lu refused\n", done, refused);
+    printf("in_place: the calls in place leave what the calls by value say: %lu done, %lu refused; and %d sums of counts\n", done, refused,
+           TURNS);
     return 0;
 }

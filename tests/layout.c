@@ -27,7 +27,7 @@ STANDS(sajowemi_findings, values, 512);
 STANDS(sajowemi_findings, confidences, 768);
 STANDS(sajowemi_findings, told_two, 800);
 STANDS(sajowemi_findings, told_three, 832);
-SIZE(sajowemi_column, 11460);
+SIZE(sajowemi_column, 11584);
 _Static_assert(_Alignof(struct sajowemi_column) == 4, "alignment");
 STANDS(sajowemi_column, who, 0);
 STANDS(sajowemi_column, slots, 28);
@@ -41,7 +41,8 @@ STANDS(sajowemi_column, found.told_two, 11388);
 STANDS(sajowemi_column, found.told_three, 11420);
 STANDS(sajowemi_column, round, 11452);
 STANDS(sajowemi_column, refused, 11456);
-SIZE(sajowemi_outcome, 11464);
+STANDS(sajowemi_column, refused[31], 11580);
+SIZE(sajowemi_outcome, 11588);
 STANDS(sajowemi_outcome, answer, 0);
 STANDS(sajowemi_outcome, column, 4);
 SIZE(sajowemi_holdings, 356);
@@ -67,22 +68,42 @@ static uint32_t number_at(const struct sajowemi_column *column, size_t at) {
     return number;
 }
 
+/* A frame that is refused in any slot but the own raises that slot's count, where the numbers above say, and no other. */
+static void counted(void) {
+    const uint8_t own[] = {61};
+    struct sajowemi_outcome outcome = sajowemi_open(32, 0, 1, 5, 0x1234, own, 1);
+    uint8_t *counts = (uint8_t *)&outcome.column + 11456;
+    uint32_t expected[32];
+
+    for (uint32_t k = 0; k < 32; k++)
+        expected[k] = 256 * k + 255; /* one more goes over into the second byte */
+    memcpy(counts, expected, 128);
+    for (uint32_t slot = 1; slot <= 32; slot++) {
+        outcome = sajowemi_take(outcome.column, slot, own, 1);
+        assert(outcome.answer == (slot == 5 ? SAJOWEMI_SLOT : SAJOWEMI_FRAME_CUT_SHORT));
+        expected[slot - 1] += slot != 5;
+        assert(memcmp(counts, expected, 128) == 0);
+    }
+}
+
 /* Opening, taking, refusing and closing write each field where the numbers above say. In round two only column 4 is heard, and its checks
  * fit nothing; in round three nobody is. */
 static void written(void) {
     const uint8_t own[] = {61, 62, 63};
     const uint8_t frame[] = {0x11, 4, 0x12, 0x34, 71, 72, 73};
     const uint8_t checks[] = {0x22, 4, 0x12, 0x34, 1, 2, 3, 4, 5, 6, 7, 8, 9, 10, 11, 12};
-    const size_t at[] = {0, 4, 8, 12, 11452, 11456};
-    const uint32_t expected[] = {7, 2, 3, 5, 1, 0};
-    const uint8_t untold[64] = {0}, two[32] = {254, 254, 254, 255, 0, 254, 254}, three[32] = {254, 254, 254, 254, 0, 254, 254};
+    const size_t at[] = {0, 4, 8, 12, 11452};
+    const uint32_t expected[] = {7, 2, 3, 5, 1};
+    const uint8_t uncounted[128] = {0}, untold[64] = {0};
+    const uint8_t two[32] = {254, 254, 254, 255, 0, 254, 254}, three[32] = {254, 254, 254, 254, 0, 254, 254};
     struct sajowemi_outcome outcome = sajowemi_open(7, 2, 3, 5, 0x1234, own, 3);
     const uint8_t *bytes = (const uint8_t *)&outcome.column;
     const size_t slot = 28 + 3 * 165, early = 5308 + 3 * 165;
 
     assert(outcome.answer == SAJOWEMI_DONE);
-    for (size_t k = 0; k < 6; k++)
+    for (size_t k = 0; k < 5; k++)
         assert(number_at(&outcome.column, at[k]) == expected[k]);
+    assert(memcmp(bytes + 11456, uncounted, 128) == 0);
     assert(bytes[16] == 0x34 && bytes[17] == 0x12);
     assert(memcmp(bytes + 18, own, 3) == 0);
     outcome = sajowemi_take(outcome.column, 4, frame, sizeof frame);
@@ -93,7 +114,7 @@ static void written(void) {
     assert(bytes[early] == 1 && memcmp(bytes + early + 1, checks, sizeof checks) == 0);
     assert(memcmp(bytes + slot + 1, frame, sizeof frame) == 0);
     outcome = sajowemi_take(outcome.column, 4, frame, sizeof frame);
-    assert(outcome.answer == SAJOWEMI_REPEATED && number_at(&outcome.column, 11456) == 1);
+    assert(outcome.answer == SAJOWEMI_REPEATED && number_at(&outcome.column, 11456 + 3 * 4) == 1);
     outcome = sajowemi_close(outcome.column);
     assert(outcome.answer == SAJOWEMI_DONE && number_at(&outcome.column, 11452) == 2);
     assert(memcmp(bytes + 10588 + 9, frame + 4, 3) == 0 && memcmp(bytes + 10588 + 12, own, 3) == 0);
@@ -103,6 +124,7 @@ static void written(void) {
     assert(memcmp(bytes + 11388, two, 32) == 0 && memcmp(bytes + 11420, untold, 32) == 0);
     outcome = sajowemi_close(outcome.column);
     assert(memcmp(bytes + 11388, two, 32) == 0 && memcmp(bytes + 11420, three, 32) == 0);
+    assert(number_at(&outcome.column, 11456 + 3 * 4) == 1);
 }
 
 /* Sending and asking read each field where the numbers above say. */
@@ -173,6 +195,7 @@ static void repaired(void) {
 }
 
 int main(void) {
+    counted();
     written();
     read();
     ended();

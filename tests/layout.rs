@@ -21,12 +21,12 @@ const _: () = {
     assert!(offset_of!(Findings, heard) == 0 && offset_of!(Findings, agreed) == 256);
     assert!(offset_of!(Findings, values) == 512 && offset_of!(Findings, confidences) == 768);
     assert!(offset_of!(Findings, told_two) == 800 && offset_of!(Findings, told_three) == 832);
-    assert!(size_of::<Column>() == 11460 && align_of::<Column>() == 4);
+    assert!(size_of::<Column>() == 11584 && align_of::<Column>() == 4);
     assert!(offset_of!(Column, who) == 0 && offset_of!(Column, slots) == 28);
     assert!(offset_of!(Column, early) == 5308 && offset_of!(Column, found) == 10588);
     assert!(offset_of!(Column, round) == 11452 && offset_of!(Column, refused) == 11456);
     assert!(
-        size_of::<Outcome>() == 11464
+        size_of::<Outcome>() == 11588
             && offset_of!(Outcome, answer) == 0
             && offset_of!(Outcome, column) == 4
     );
@@ -45,42 +45,63 @@ fn number_at(column: &Column, at: usize) -> u32 {
     u32::from_ne_bytes(bytes_at(column, at, at + 4).try_into().unwrap())
 }
 
-/// Opening, taking, refusing and closing write each field where the numbers above say. In round two only column 4 is heard, and its checks
-/// fit nothing; in round three nobody is.
+/// A frame that is refused in any slot but the own raises that slot's count, where the numbers above say, and no other.
+fn counted() {
+    let mut column = archive::open(32, 0, 1, 5, 0x1234, &[61]).column;
+    // One more goes over into the second byte.
+    let mut expected: [u32; 32] = std::array::from_fn(|k| 256 * k as u32 + 255);
+    let bytes = |counts: [u32; 32]| counts.map(u32::to_ne_bytes).concat();
+    bytes_at_mut(&mut column, 11456, 11584).copy_from_slice(&bytes(expected));
+    for slot in 1..=32 {
+        let outcome = archive::take(&column, slot, &[61]);
+        assert_eq!(outcome.answer, if slot == 5 { 8 } else { 9 });
+        column = outcome.column;
+        expected[slot as usize - 1] += u32::from(slot != 5);
+        assert_eq!(bytes_at(&column, 11456, 11584), bytes(expected));
+    }
+}
+
+/// Where column 4's slots stand, of the round and of the one that follows, and its checks.
+const SLOT: usize = 28 + 3 * 165;
+const EARLY: usize = 5308 + 3 * 165;
+const CHECKS: [u8; 16] = [0x22, 4, 0x12, 0x34, 1, 2, 3, 4, 5, 6, 7, 8, 9, 10, 11, 12];
+
+/// Opening, taking, refusing and closing write each field where the numbers above say.
 fn written() {
     let opened = archive::open(7, 2, 3, 5, 0x1234, &[61, 62, 63]);
     let column = opened.column;
     assert_eq!(opened.answer, 0);
     assert_eq!(
-        [0, 4, 8, 12, 11452, 11456].map(|at| number_at(&column, at)),
-        [7, 2, 3, 5, 1, 0]
+        [0, 4, 8, 12, 11452].map(|at| number_at(&column, at)),
+        [7, 2, 3, 5, 1]
     );
     assert_eq!(bytes_at(&column, 16, 18), 0x1234u16.to_ne_bytes());
     assert_eq!(bytes_at(&column, 18, 26), [61, 62, 63, 0, 0, 0, 0, 0]);
+    assert_eq!(bytes_at(&column, 11456, 11584), [0; 128]);
     let frame = [0x11, 4, 0x12, 0x34, 71, 72, 73];
     let taken = archive::take(&column, 4, &frame).column;
-    let slot = 28 + 3 * 165;
-    assert_eq!(bytes_at(&taken, slot, slot + 1), [1]);
-    assert_eq!(bytes_at(&taken, slot + 1, slot + 8), frame);
-    assert_eq!(
-        number_at(&archive::take(&taken, 4, &frame).column, 11456),
-        1
-    );
-    let checks = [0x22, 4, 0x12, 0x34, 1, 2, 3, 4, 5, 6, 7, 8, 9, 10, 11, 12];
-    let ahead = archive::take(&taken, 4, &checks).column;
-    let early = 5308 + 3 * 165;
-    assert_eq!(bytes_at(&ahead, early, early + 1), [1]);
-    assert_eq!(bytes_at(&ahead, early + 1, early + 17), checks);
-    assert_eq!(bytes_at(&ahead, slot + 1, slot + 8), frame);
-    let heard = archive::close(&ahead).column;
+    assert_eq!(bytes_at(&taken, SLOT, SLOT + 1), [1]);
+    assert_eq!(bytes_at(&taken, SLOT + 1, SLOT + 8), frame);
+    let repeated = archive::take(&taken, 4, &frame).column;
+    assert_eq!(number_at(&repeated, 11456 + 3 * 4), 1);
+    let ahead = archive::take(&repeated, 4, &CHECKS).column;
+    assert_eq!(bytes_at(&ahead, EARLY, EARLY + 1), [1]);
+    assert_eq!(bytes_at(&ahead, EARLY + 1, EARLY + 17), CHECKS);
+    assert_eq!(bytes_at(&ahead, SLOT + 1, SLOT + 8), frame);
+    closed(&ahead);
+}
+
+/// In round two only column 4 is heard, and its checks fit nothing; in round three nobody is. Its refused frame stays counted.
+fn closed(ahead: &Column) {
+    let heard = archive::close(ahead).column;
     assert_eq!(number_at(&heard, 11452), 2);
     assert_eq!(
         bytes_at(&heard, 10588 + 9, 10588 + 15),
         [71, 72, 73, 61, 62, 63]
     );
-    assert_eq!(bytes_at(&heard, slot, slot + 1), [1]);
-    assert_eq!(bytes_at(&heard, slot + 1, slot + 17), checks);
-    assert_eq!(bytes_at(&heard, early, early + 1), [0]);
+    assert_eq!(bytes_at(&heard, SLOT, SLOT + 1), [1]);
+    assert_eq!(bytes_at(&heard, SLOT + 1, SLOT + 17), CHECKS);
+    assert_eq!(bytes_at(&heard, EARLY, EARLY + 1), [0]);
     assert_eq!(bytes_at(&heard, 11388, 11452), [0; 64]);
     let agreed = archive::close(&heard).column;
     let two = [254, 254, 254, 255, 0, 254, 254];
@@ -92,6 +113,7 @@ fn written() {
     assert_eq!(bytes_at(&ended, 11395, 11420), [0; 25]);
     assert_eq!(bytes_at(&ended, 11420, 11427), three);
     assert_eq!(bytes_at(&ended, 11427, 11452), [0; 25]);
+    assert_eq!(number_at(&ended, 11456 + 3 * 4), 1);
 }
 
 /// Sending and asking read each field where the numbers above say.
@@ -165,6 +187,7 @@ fn repaired() {
 }
 
 fn main() {
+    counted();
     written();
     read();
     ended();

@@ -1,6 +1,7 @@
 //! What opening, taking and closing leave in a record, and what a result call answers, to the byte, against a model of the record: random
-//! settings, and records made by hand of random bits, many of them with checks in their slots that repair something. Two bytes of a
-//! record belong to nothing and are left out. The first difference ends the run.
+//! settings, and records made by hand of random bits, many of them with checks in their slots that repair something, and with counts of
+//! refused frames at their top or one below it. Two bytes of a record belong to nothing and are left out. The first difference ends the
+//! run.
 
 #[path = "../rust/src/archive.rs"]
 mod archive;
@@ -62,7 +63,7 @@ fn laid_out(record: &Record) -> Column {
             told_three: record.told_three[..].try_into().unwrap(),
         },
         round: record.round,
-        refused: record.refused,
+        refused: record.refused[..].try_into().unwrap(),
     }
 }
 
@@ -96,7 +97,7 @@ fn read(column: &Column) -> Record {
         told_two: column.found.told_two.to_vec(),
         told_three: column.found.told_three.to_vec(),
         round: column.round,
-        refused: column.refused,
+        refused: column.refused.to_vec(),
     }
 }
 
@@ -162,7 +163,7 @@ fn openings(chance: &mut Chance) {
     }
 }
 
-/// A record of random bits whose settings, number, own value and round pass.
+/// A record of random bits whose settings, number, own value and round pass. A third of its counts are at their top or one below.
 fn made_by_hand(chance: &mut Chance, rounds: u64) -> Column {
     let mut column = EMPTY;
     fill(&mut column, |bytes| chance.fill(bytes));
@@ -174,23 +175,48 @@ fn made_by_hand(chance: &mut Chance, rounds: u64) -> Column {
     for slot in column.slots.iter_mut().chain(&mut column.early) {
         slot.taken *= u8::from(!chance.one_in(3));
     }
+    for count in &mut column.refused {
+        if chance.one_in(3) {
+            *count = chance.pick(&[u32::MAX - 1, u32::MAX]);
+        }
+    }
     column
 }
 
-/// Frames of the round, of the one that follows, and of any; answers how many were taken, and how many of these early.
-fn frames(chance: &mut Chance) -> (u32, u32) {
-    let (mut taken, mut early) = (0, 0);
+/// What frames came to: how many were taken, how many of these early; how many were refused and counted, and how many refused whose count
+/// stayed at its top.
+#[derive(Default)]
+struct Frames {
+    taken: u32,
+    early: u32,
+    counted: u32,
+    at_top: u32,
+}
+
+/// A slot and a frame for it: of the round, of the one that follows, or of any; at times with another bit in the header, or cut within it.
+fn drawn_frame(chance: &mut Chance, column: &Column) -> (u32, Vec<u8>) {
+    let Identity { n, t, w, run, .. } = column.who;
+    let slot = 1 + chance.below(u64::from(n) + 1) as u32;
+    let any = 1 + chance.below(3) as u32;
+    let command = command_of(chance.pick(&[column.round, column.round, column.round + 1, any]));
+    let size = frame_length(command, t, w).unwrap_or(4);
+    let mut operand = vec![0; size - 4 + usize::from(chance.one_in(16))];
+    chance.fill(&mut operand);
+    let mut drawn = frame(command, slot as u8, run, &operand);
+    let at = chance.below(32) as usize;
+    match at {
+        0..4 => drawn[at] ^= 1 << chance.below(8),
+        4..8 => drawn.truncate(at - 4),
+        _ => {}
+    }
+    (slot, drawn)
+}
+
+fn frames(chance: &mut Chance) -> Frames {
+    let mut frames = Frames::default();
     for _ in 0..FRAMES {
         let column = made_by_hand(chance, 4);
-        let Identity { n, t, w, run, .. } = column.who;
-        let slot = 1 + chance.below(u64::from(n) + 1) as u32;
-        let any = 1 + chance.below(3) as u32;
-        let round = chance.pick(&[column.round, column.round, column.round + 1, any]);
-        let command = command_of(round);
-        let size = frame_length(command, t, w).unwrap_or(4);
-        let mut operand = vec![0; size - 4 + usize::from(chance.one_in(16))];
-        chance.fill(&mut operand);
-        let lent = frame(command, slot as u8, run, &operand);
+        let (slot, lent) = drawn_frame(chance, &column);
         let mut model = read(&column);
         let answer = model.take(slot, &lent);
         same(
@@ -199,10 +225,15 @@ fn frames(chance: &mut Chance) -> (u32, u32) {
             answer,
             &model,
         );
-        taken += u32::from(answer == 0);
-        early += u32::from(answer == 0 && round > column.round);
+        frames.taken += u32::from(answer == 0);
+        frames.early += u32::from(answer == 0 && lent[0] != command_of(column.round));
+        if answer > 8 {
+            let was_at_top = column.refused[slot as usize - 1] == u32::MAX;
+            frames.counted += u32::from(!was_at_top);
+            frames.at_top += u32::from(was_at_top);
+        }
     }
-    (taken, early)
+    frames
 }
 
 /// Checks of vectors near the record's own in some of the slots, which random bits alone would not make. Those that came early would count
@@ -314,7 +345,12 @@ fn results(chance: &mut Chance) {
 fn main() {
     let mut chance = Chance::new(5);
     openings(&mut chance);
-    let (taken, early) = frames(&mut chance);
+    let Frames {
+        taken,
+        early,
+        counted,
+        at_top,
+    } = frames(&mut chance);
     let Closings {
         found,
         missing,
@@ -325,7 +361,8 @@ fn main() {
     results(&mut chance);
     println!(
         "records: to the byte as the model has them: {OPENINGS} openings, {FRAMES} frames, {taken} of them taken, {early} of these early, \
-         {CLOSINGS} closings, {found} of them with something found, {RESULTS} results; closings told {missing} senders as missing, {none} as \
-         none, {changed} by numbers above 0, {above_t} of these above t"
+         {counted} refused and counted, {at_top} refused with a count that stays at its top, {CLOSINGS} closings, {found} of them with \
+         something found, {RESULTS} results; closings told {missing} senders as missing, {none} as none, {changed} by numbers above 0, \
+         {above_t} of these above t"
     );
 }

@@ -1,6 +1,6 @@
-//! The safe crate: an exchange of four good columns, how far off senders were as a record has it, the level where one column is silent,
-//! repair with the places that it changed and tried, every refusal it can name, the size of a frame against what `send` writes, and the
-//! texts, which are those of the C header.
+//! The safe crate: an exchange of four good columns, how far off senders were as a record has it, whose frames were refused, the level
+//! where one column is silent, repair with the places that it changed and tried, every refusal it can name, the size of a frame against
+//! what `send` writes, and the texts, which are those of the C header.
 
 use sajowemi::{
     Beliefs, Column, LONGEST_FRAME, Level, Refusal, Repair, Settings, Told, archive, check_values,
@@ -46,11 +46,11 @@ fn exchange() {
                 .iter()
                 .map(|height| (core::slice::from_ref(height), 2)))
         );
-        assert_eq!(
-            (beliefs.of(0), beliefs.of(5), column.refused()),
-            (None, None, 9)
-        );
+        assert_eq!((beliefs.of(0), beliefs.of(5)), (None, None));
+        assert_eq!(column.refused_in_all(), 9);
         for k in 1..=4 {
+            let repeated = if k == column.number() { 0 } else { 3 };
+            assert_eq!(column.refused(k), Some(repeated));
             let agreeing = Some(Told::Changed(0));
             assert_eq!(
                 (beliefs.told_two(k), beliefs.told_three(k)),
@@ -94,6 +94,43 @@ fn told() {
             nobody,
             nobody
         ]
+    );
+}
+
+/// How many frames of columns 0, 4, 5, 32, 33 and the greatest number a column with that record refused.
+fn refused_of(record: &archive::Column) -> [Option<u32>; 6] {
+    let column = Column::from_record(*record);
+    [0, 4, 5, 32, 33, u32::MAX].map(|k| column.refused(k))
+}
+
+/// Each sender's count at its number and nobody's beside the group, also where a record has any n. Closing keeps all of them. The sum has
+/// those behind n too, and where all are at their top it is more than 32 bits hold.
+fn refused() {
+    let mut record = *Column::open(FOUR, 2, 7, &[9]).unwrap().record();
+    assert_eq!(refused_of(&record), [None, Some(0), None, None, None, None]);
+    record.refused = core::array::from_fn(|k| 101 + k as u32);
+    let mut column = Column::from_record(record);
+    for _ in 1..=3 {
+        column.close().unwrap();
+        assert_eq!(
+            refused_of(column.record()),
+            [None, Some(104), None, None, None, None]
+        );
+        assert_eq!(column.refused_in_all(), (101..=132).sum());
+    }
+    for n in [33, 1 << 31, u32::MAX] {
+        record.who.n = n;
+        assert_eq!(
+            refused_of(&record),
+            [None, Some(104), Some(105), Some(132), None, None]
+        );
+    }
+    record.who.n = 0;
+    assert_eq!(refused_of(&record), [None; 6]);
+    record.refused = [u32::MAX; archive::MOST_COLUMNS];
+    assert_eq!(
+        Column::from_record(record).refused_in_all(),
+        32 * 4_294_967_295
     );
 }
 
@@ -239,7 +276,9 @@ fn refusals() {
     assert_eq!(frame_refusal(2, &[51, 2, 0, 7, 5, 5]), 14);
     assert_eq!(frame_refusal(2, &[34, 2, 0, 7, 5, 5]), 0);
     assert_eq!(frame_refusal(2, &[34, 2, 0, 7, 6, 6]), 15);
-    assert_eq!(column.refused(), 7);
+    let counts = [1, 2, 3, 4].map(|k| column.refused(k));
+    assert_eq!(counts, [Some(0), Some(7), Some(0), Some(0)]);
+    assert_eq!(column.refused_in_all(), 7);
     assert_eq!(column.send(&mut [0; 4]), Err(Refusal::BufferTooShort));
     assert_eq!(column.result().err(), Some(Refusal::NotFinished));
 }
@@ -325,6 +364,7 @@ fn texts() {
 fn main() {
     exchange();
     told();
+    refused();
     level();
     level_beside_a_silent_column();
     code();

@@ -46,8 +46,8 @@ pub struct Findings {
     pub told_three: [u8; MOST_COLUMNS],
 }
 
-/// A column's record, with the frames of its round and those that came early, for the round that follows. Its bits may be anything: each
-/// call checks it again.
+/// A column's record, with the frames of its round and those that came early, for the round that follows; and of each slot how many of its
+/// frames were refused 9 to 15 since the opening, up to the count's top. Its bits may be anything: each call checks it again.
 #[derive(Clone, Copy)]
 #[repr(C)]
 pub struct Column {
@@ -56,7 +56,7 @@ pub struct Column {
     pub early: [Slot; MOST_COLUMNS],
     pub found: Findings,
     pub round: u32,
-    pub refused: u32,
+    pub refused: [u32; MOST_COLUMNS],
 }
 
 #[derive(Clone, Copy)]

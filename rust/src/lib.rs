@@ -8,12 +8,13 @@
 //!     let mut buffer = [0; LONGEST_FRAME];
 //!     radio.send(column.send(&mut buffer)?);
 //!     while let Some((slot, frame)) = radio.frame_before(end_of_round) {
-//!         let _ = column.take(slot, frame); // of this round, or early for the next
+//!         let _ = column.take(slot, frame); // of this round, or early for the next; a refused one is counted for its slot
 //!     }
 //!     column.close()?;
 //! }
 //! let beliefs = column.result()?;
 //! motor.go(column.level()?.correction);
+//! service.note(3, column.refused(3)); // how many of column 3's frames were refused
 //! ```
 #![no_std]
 
@@ -67,13 +68,22 @@ impl Column {
         self.record.round
     }
 
-    /// How many frames were refused, up to the count's top.
-    pub fn refused(&self) -> u32 {
-        self.record.refused
+    /// How many of the frames that came in slot k, which is column k's, were refused 9 to 15 since the opening, up to the count's top,
+    /// where it stays; None where there is no column k. It is 0 for the column itself, whose slot is refused 8, which is not counted. Of a
+    /// record made by hand, what stands there.
+    pub fn refused(&self, k: u32) -> Option<u32> {
+        let at = place(k, self.record.who.n)?;
+        self.record.refused.get(at).copied()
+    }
+
+    /// The sum of all counts. As long as none of them has reached its top, it is how many frames were refused 9 to 15 since the opening;
+    /// from then on it may be less.
+    pub fn refused_in_all(&self) -> u64 {
+        self.record.refused.into_iter().map(u64::from).sum()
     }
 
     /// Takes the frame that came in slot k, which is column k's: one of the round, or one of the round that follows, which is kept and
-    /// counts as taken when that round opens. A refusal is counted where it is the frame's fault.
+    /// counts as taken when that round opens. A refusal 9 to 15 is the frame's fault, and counted for its slot.
     pub fn take(&mut self, slot: u32, frame: &[u8]) -> Result<(), Refusal> {
         let outcome = archive::take(&self.record, slot, frame);
         self.record = outcome.column;
@@ -103,7 +113,7 @@ impl Column {
         let held = archive::result(&self.record);
         Refusal::from_answer(held.answer)?;
         Ok(Beliefs {
-            n: self.record.who.n as usize,
+            n: self.record.who.n,
             w: self.record.who.w as usize,
             held,
         })
@@ -140,7 +150,7 @@ pub struct Level {
 /// The values of all columns, each with a confidence, and how far off each sender was in rounds two and three.
 #[derive(Clone, Copy)]
 pub struct Beliefs {
-    n: usize,
+    n: u32,
     w: usize,
     held: archive::Holdings,
 }
@@ -149,7 +159,7 @@ impl Beliefs {
     /// The value of column k and its confidence; None where there is no column k. Of a record that the calls made, the confidence is 0, 1
     /// or 2, and the value zeros where it is 0; of one made by hand, what stands there.
     pub fn of(&self, k: u32) -> Option<(&[u8], u8)> {
-        let at = self.at(k)?;
+        let at = place(k, self.n)?;
         Some((
             &self.held.values[at * self.w..(at + 1) * self.w],
             self.held.confidences[at],
@@ -158,7 +168,7 @@ impl Beliefs {
 
     /// The same of columns 1 to n.
     pub fn all(&self) -> impl Iterator<Item = (&[u8], u8)> {
-        (1..=self.n as u32).filter_map(|k| self.of(k))
+        (1..=self.n).filter_map(|k| self.of(k))
     }
 
     /// How far off sender k was in round two, 0 places for the column itself; None where there is no column k. Of a record made by hand,
@@ -173,13 +183,13 @@ impl Beliefs {
     }
 
     fn told(&self, senders: &[u8; archive::MOST_COLUMNS], k: u32) -> Option<Told> {
-        self.at(k).map(|at| Told::from_byte(senders[at]))
+        place(k, self.n).map(|at| Told::from_byte(senders[at]))
     }
+}
 
-    /// Where column k stands in the lists.
-    fn at(&self, k: u32) -> Option<usize> {
-        (k as usize).checked_sub(1).filter(|at| *at < self.n)
-    }
+/// Where column k of n stands in the lists.
+fn place(k: u32, n: u32) -> Option<usize> {
+    (1..=n).contains(&k).then(|| k as usize - 1)
 }
 
 /// What a round told of a sender. Where at most t columns are bad, and the good columns' frames reach each other in time with nothing else

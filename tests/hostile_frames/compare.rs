@@ -4,7 +4,7 @@ use crate::archive::{self, Column, Findings, Identity, Outcome, Slot};
 use crate::frames::{command_of, frame, frame_length};
 use crate::linear;
 use crate::record::{EMPTY_SLOT, bytes_at, difference};
-use crate::refusals::{Call, Case, answer, count_after};
+use crate::refusals::{Call, Case, answer, count_refusal};
 use std::fmt::Debug;
 use std::mem::replace;
 
@@ -22,7 +22,7 @@ pub fn same<T: PartialEq + Debug>(what: &str, ours: T, model: T, column: &Column
         let Column { round, refused, .. } = column;
         eprintln!("hostile_frames: {what}: the library has {ours:?}, the model {model:?}");
         eprintln!(
-            "n {n}, t {t}, w {w}, number {number}, run {run}, round {round}, own {own:?}, refused {refused}"
+            "n {n}, t {t}, w {w}, number {number}, run {run}, round {round}, own {own:?}, refused {refused:?}"
         );
         std::process::exit(1);
     }
@@ -79,11 +79,12 @@ pub fn taken(column: &Column, slot: u32, lent: &[u8]) -> Outcome {
         let what = format!("{} bytes {header:?} in slot {slot}", lent.len());
         same(&what, outcome.answer, model, column);
     }
-    let count = outcome.column.refused;
+    let mut counts = column.refused;
+    count_refusal(&mut counts, slot, model);
     same(
-        "the count of refused frames",
-        count,
-        count_after(model, column.refused),
+        "the counts of refused frames",
+        &outcome.column.refused,
+        &counts,
         column,
     );
     outcome.column.refused = column.refused;
@@ -92,7 +93,7 @@ pub fn taken(column: &Column, slot: u32, lent: &[u8]) -> Outcome {
     } else {
         same_record("a refused frame", &outcome.column, column);
     }
-    outcome.column.refused = count;
+    outcome.column.refused = counts;
     outcome
 }
 

@@ -29,7 +29,8 @@ pub fn damaged_records(count: u64) -> u64 {
     count
 }
 
-/// A record of random bits: all of it, or all but settings that pass, or all but these with one of them spoiled.
+/// A record of random bits: all of it, or all but settings that pass, or all but these with one of them spoiled. Counts of refused frames
+/// are at their top here and there.
 fn damaged(chance: &mut Chance) -> Column {
     let mut column = EMPTY;
     fill(&mut column, |bytes| chance.fill(bytes));
@@ -42,16 +43,20 @@ fn damaged(chance: &mut Chance) -> Column {
     for slot in column.slots.iter_mut().chain(&mut column.early) {
         slot.taken *= chance.below(2) as u8;
     }
+    for count in &mut column.refused {
+        if chance.one_in(4) {
+            *count = u32::MAX;
+        }
+    }
     let bits = chance.word() as u32;
     let who = &mut column.who;
-    match chance.below(12) {
+    match chance.below(11) {
         0 => who.n = bits,
         1 => who.t = chance.pick(&BAD),
         2 => who.w = chance.pick(&SIZES),
         3 => who.number = chance.pick(&NUMBERS),
         4 => column.round = bits,
         5 => who.own = [0; 8],
-        6 => column.refused = u32::MAX,
         _ => {}
     }
     column

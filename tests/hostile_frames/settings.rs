@@ -92,6 +92,7 @@ fn records(n: u32, t: u32, w: u32, number: u32) -> u64 {
                     own,
                 },
                 round,
+                refused: [7; 32],
                 ..EMPTY
             };
             for room in [0, 3, 4, 5, 164, 200] {

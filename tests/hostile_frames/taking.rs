@@ -1,12 +1,11 @@
 //! Frames of every kind at every point of an exchange.
 
 use crate::RUN;
-use crate::archive::{self, Column, Identity};
+use crate::archive::{self, Column};
 use crate::chance::Chance;
 use crate::compare::{closed, same, taken};
 use crate::division;
 use crate::frames::{command_of, frame, frame_length};
-use crate::record::EMPTY;
 
 /// The records of rounds 1 to 4 of one exchange, each with the frames of all but two columns taken. Columns of an even number are ahead of
 /// the others: their frames of rounds two and three come early.
@@ -168,48 +167,4 @@ pub fn early_frames() -> u64 {
         &column,
     );
     6 * 3 + 2 + 6
-}
-
-/// The count of refused frames at its bottom and its top, under each of the refusals 9 to 15.
-pub fn count_at_top() -> u64 {
-    let frames: [(u32, u32, &[u8]); 8] = [
-        (9, 4, &[0x22, 4, 0x12]),
-        (10, 4, &[0x21, 4, 0x12, 0x34, 1, 2]),
-        (11, 4, &[0x22, 4, 0x12, 0x34, 1]),
-        (12, 4, &[0x22, 3, 0x12, 0x34, 1, 2]),
-        (13, 4, &[0x22, 4, 0x13, 0x34, 1, 2]),
-        (14, 4, &[0x11, 4, 0x12, 0x34, 1]),
-        (15, 3, &[0x22, 3, 0x12, 0x34, 1, 2]),
-        (15, 4, &[0x33, 4, 0x12, 0x34, 1, 2]),
-    ];
-    let counts = [
-        (0, 1),
-        (1, 2),
-        (u32::MAX - 1, u32::MAX),
-        (u32::MAX, u32::MAX),
-    ];
-    for (refused, after) in counts {
-        let who = Identity {
-            n: 4,
-            t: 1,
-            w: 1,
-            number: 2,
-            run: RUN,
-            own: [1; 8],
-        };
-        let mut column = Column {
-            who,
-            round: 2,
-            refused,
-            ..EMPTY
-        };
-        column.slots[2].taken = 255;
-        column.early[3].taken = 255;
-        for (number, slot, lent) in frames {
-            let outcome = taken(&column, slot, lent);
-            same("a refusal", outcome.answer, number, &column);
-            same("the count", outcome.column.refused, after, &column);
-        }
-    }
-    (counts.len() * frames.len()) as u64
 }

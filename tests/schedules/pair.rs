@@ -3,6 +3,7 @@
 use crate::archive::{self, Column};
 use crate::exchange::{Model, Told, Value};
 use crate::frames::command_of;
+use std::ops::RangeInclusive;
 
 /// A slot and the frame that comes in it.
 pub type Event = (u32, Vec<u8>);
@@ -67,8 +68,34 @@ impl Pair {
         self.handed.push(Handed {
             round,
             event,
-            answer,
+            answer: outcome.answer,
         });
+        self.assert_counted();
+    }
+
+    /// How many frames have one of these answers.
+    pub fn answered(&self, answers: RangeInclusive<u32>) -> u64 {
+        let answered = |handed: &&Handed| answers.contains(&handed.answer);
+        self.handed.iter().filter(answered).count() as u64
+    }
+
+    /// What is promised of the counts, worked out from what was handed in since the opening and how it was answered: each slot's is how many
+    /// frames were refused 9 to 15 in it, and their sum is how many were in all; the own slot's and those behind n are 0.
+    fn assert_counted(&self) {
+        let Pair { column, model, .. } = self;
+        let mut in_slot = [0; 32];
+        for handed in &self.handed {
+            if (9..=15).contains(&handed.answer) {
+                in_slot[handed.event.0 as usize - 1] += 1;
+            }
+        }
+        assert_eq!(column.refused, in_slot, "frames refused by slot");
+        let sum: u64 = column.refused.into_iter().map(u64::from).sum();
+        assert_eq!(sum, self.answered(9..=15), "frames refused in all");
+        let own = column.refused[model.number as usize - 1];
+        assert_eq!(own, 0, "the own slot's");
+        let behind = &column.refused[model.n as usize..];
+        assert!(behind.iter().all(|count| *count == 0), "behind n");
     }
 
     /// Whether a frame of a round was handed in it, or at most so many rounds before.
@@ -92,6 +119,7 @@ impl Pair {
         self.column = outcome.column;
         self.model.close();
         self.compare();
+        self.assert_counted();
         if self.model.round < 4 {
             self.send();
         }
@@ -101,11 +129,9 @@ impl Pair {
     fn compare(&self) {
         let Pair { column, model, .. } = self;
         let size = (model.n * model.w) as usize;
-        assert_eq!(
-            (column.round, column.refused),
-            (model.round, model.refused),
-            "round and refused count"
-        );
+        assert_eq!(column.round, model.round, "the round");
+        let counts = &column.refused[..model.n as usize];
+        assert_eq!(counts, model.refused, "the counts of refused frames");
         let slots = column.slots.iter().zip(&model.operands);
         let early = column.early.iter().zip(&model.early);
         for (slot, operand) in slots.chain(early) {
@@ -127,18 +153,22 @@ impl Pair {
         assert_eq!(column.found.told_two, two, "what round two told");
         assert_eq!(column.found.told_three, three, "what round three told");
         if model.round > 3 {
-            let held = archive::result(column);
-            let (values, confidences): (Vec<Value>, Vec<u8>) = model.held.iter().cloned().unzip();
-            assert_eq!(held.answer, 0, "the result");
-            assert_eq!(held.values[..size], values.concat(), "values");
-            assert_eq!(
-                held.confidences[..model.n as usize],
-                confidences,
-                "confidences"
-            );
-            assert_eq!(held.told_two, two, "round two in the result");
-            assert_eq!(held.told_three, three, "round three in the result");
+            self.compare_result();
         }
+    }
+
+    /// The result says what the model holds.
+    fn compare_result(&self) {
+        let Pair { column, model, .. } = self;
+        let (count, size) = (model.n as usize, (model.n * model.w) as usize);
+        let held = archive::result(column);
+        let (values, confidences): (Vec<Value>, Vec<u8>) = model.held.iter().cloned().unzip();
+        assert_eq!(held.answer, 0, "the result");
+        assert_eq!(held.values[..size], values.concat(), "values");
+        assert_eq!(held.confidences[..count], confidences, "confidences");
+        let (two, three) = (record_of(&model.told_two), record_of(&model.told_three));
+        assert_eq!(held.told_two, two, "round two in the result");
+        assert_eq!(held.told_three, three, "round three in the result");
     }
 }
 

@@ -32,7 +32,7 @@ pub const EMPTY: Column = Column {
         told_three: [0; 32],
     },
     round: 0,
-    refused: 0,
+    refused: [0; 32],
 };
 
 // Within each of the two runs there is no gap between fields, and any bits are a record.
