@@ -9,15 +9,15 @@ use crate::frames::{command_of, frame, frame_length};
 use crate::record::{EMPTY, fill};
 use std::array::from_fn;
 
-const TOP: u32 = u32::MAX;
+pub const TOP: u32 = u32::MAX;
 /// The ends of 32 bits, and where one more goes over into the next byte or into a sign.
 const COUNTS: [u32; 7] = [0, 0xff, 0xffff, 0xff_ffff, 0x7fff_ffff, TOP - 1, TOP];
 
-type Settings = (u32, u32, u32);
-const GREATEST: Settings = (32, 10, 8);
+pub type Settings = (u32, u32, u32);
+pub const GREATEST: Settings = (32, 10, 8);
 /// n, t and w.
 #[rustfmt::skip]
-const SETTINGS: [Settings; 6] = [GREATEST, (32, 0, 1), (31, 10, 8), (7, 2, 3), (4, 1, 1), (2, 0, 4)];
+pub const SETTINGS: [Settings; 6] = [GREATEST, (32, 0, 1), (31, 10, 8), (7, 2, 3), (4, 1, 1), (2, 0, 4)];
 
 /// How many frames were refused and counted, refused while their slot's count stayed at its top, and taken.
 #[derive(Default)]
@@ -39,7 +39,7 @@ fn made_by_hand(chance: &mut Chance, (n, t, w): Settings, number: u32, round: u3
 }
 
 /// Records of the three rounds, for each own number, or for the first, a middle one and the last.
-fn records(chance: &mut Chance, settings: Settings, every_number: bool) -> Vec<Column> {
+pub fn records(chance: &mut Chance, settings: Settings, every_number: bool) -> Vec<Column> {
     let (n, _, _) = settings;
     let spread = [1, (n + 1) / 2, n];
     let mut records = vec![];
@@ -56,7 +56,7 @@ fn other_slots(column: &Column) -> Vec<u32> {
     (1..=n).filter(|slot| *slot != number).collect()
 }
 
-fn right_frame(column: &Column, slot: u32, round: u32) -> Vec<u8> {
+pub fn right_frame(column: &Column, slot: u32, round: u32) -> Vec<u8> {
     let Identity { t, w, .. } = column.who;
     let command = command_of(round);
     let length = frame_length(command, t, w).unwrap();
@@ -91,7 +91,7 @@ fn faulty_frames(column: &Column, slot: u32) -> Vec<(u32, Vec<u8>)> {
 }
 
 /// Hands a frame in, and compares the answer and the whole record.
-fn handed(column: &Column, slot: u32, lent: &[u8], answer: u32, expected: &Column) {
+pub fn handed(column: &Column, slot: u32, lent: &[u8], answer: u32, expected: &Column) {
     let outcome = archive::take(column, slot, lent);
     same(
         "a slot and the answer to a frame in it",
@@ -190,86 +190,6 @@ pub fn one_at_top(frames: &mut Frames) {
             }
         }
     }
-}
-
-/// The record spoiled for each of the refusals 1 to 4, 6 and 7.
-fn spoiled(column: &Column) -> Vec<(u32, Column)> {
-    let n = column.who.n;
-    let with = |change: &dyn Fn(&mut Column)| {
-        let mut spoiled = *column;
-        change(&mut spoiled);
-        spoiled
-    };
-    let mut records = vec![(6, with(&|column| column.who.own = [0; 8]))];
-    for number in [0, 33, TOP] {
-        records.push((1, with(&|column| column.who.n = number)));
-        records.push((3, with(&|column| column.who.w = number)));
-    }
-    for number in [n, TOP] {
-        records.push((2, with(&|column| column.who.t = number)));
-    }
-    for number in [0, n + 1, TOP] {
-        records.push((4, with(&|column| column.who.number = number)));
-    }
-    for number in [0, 4, TOP] {
-        records.push((7, with(&|column| column.round = number)));
-    }
-    records
-}
-
-/// An empty frame and a right one, refused 1 to 8 before the frame is looked at: no byte of the record moves.
-fn kept(column: &Column, slot: u32, right: &[u8], answer: u32) -> u64 {
-    handed(column, slot, &[], answer, column);
-    handed(column, slot, right, answer, column);
-    2
-}
-
-/// 8 in the own slot and beside the group, the other refusals that come before the frame's own in every slot, with counts anywhere and at
-/// the top.
-pub fn uncounted() -> u64 {
-    let mut chance = Chance::new(63);
-    let mut calls = 0;
-    for settings in SETTINGS {
-        for mut column in records(&mut chance, settings, settings == GREATEST) {
-            let Identity { n, number, .. } = column.who;
-            for counts in [column.refused, [TOP; 32]] {
-                column.refused = counts;
-                for slot in [number, 0, n + 1, 33, TOP] {
-                    let right = right_frame(&column, slot, column.round);
-                    calls += kept(&column, slot, &right, 8);
-                }
-                for (answer, spoiled) in spoiled(&column) {
-                    for slot in (0..=33).chain([TOP]) {
-                        let right = right_frame(&column, slot, column.round);
-                        calls += kept(&spoiled, slot, &right, answer);
-                    }
-                }
-            }
-        }
-    }
-    calls
-}
-
-/// Closing keeps every count, done or refused: anywhere, also behind n, one at the top, one below it, and all at it.
-pub fn closings() -> u64 {
-    let mut chance = Chance::new(64);
-    let mut calls = 0;
-    for settings in SETTINGS {
-        for mut column in records(&mut chance, settings, false) {
-            let one_at_top = from_fn(|k| if k == 1 { TOP } else { k as u32 });
-            for counts in [column.refused, one_at_top, [TOP - 1; 32], [TOP; 32]] {
-                column.refused = counts;
-                let mut records = vec![column];
-                records.extend(spoiled(&column).into_iter().map(|(_, spoiled)| spoiled));
-                for record in &records {
-                    let after = closed(record).refused;
-                    same("counts after a closing", &after, &counts, record);
-                }
-                calls += records.len() as u64;
-            }
-        }
-    }
-    calls
 }
 
 /// A frame of any kind in any slot of the group or beside it.

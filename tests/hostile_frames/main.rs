@@ -13,6 +13,7 @@ mod damage;
 mod division;
 #[path = "../../models/frames.rs"]
 mod frames;
+mod kept;
 #[path = "../../models/linear.rs"]
 mod linear;
 #[path = "../shared/record.rs"]
@@ -54,7 +55,7 @@ fn refused_counts() {
     let mut frames = counts::Frames::default();
     counts::every_refusal(&mut frames);
     counts::one_at_top(&mut frames);
-    let (uncounted, closings) = (counts::uncounted(), counts::closings());
+    let (uncounted, closings) = (kept::uncounted(), kept::closings());
     let (rose, past) = counts::lists(LISTS);
     let counts::Frames {
         counted,
