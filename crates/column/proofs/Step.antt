@@ -1,4 +1,4 @@
--- What one call does to a record: it leaves it as it was but for the refused count, or puts a frame into its slot, or closes a round.
+-- What one call does to a record: it leaves it as it was but for the counts of refused frames, or puts a frame into its slot, or closes a round.
 -- Read off the definitions, call by call. Assumes nothing.
 use mathlib.Core.Path.{_≡_, refl, sym, _∙_, ap, subst}
 use mathlib.Core.Bool.{Bool, true, false, cond}
@@ -17,7 +17,7 @@ use Rattle.column.specs.Call.{Call, taking, sending, closing, asking, af
 use Rattle.record.proofs.Refusal.{close-round}
 use Rattle.column.proofs.Frame.{after-take-taken}
 
--- as before but for the refused count
+-- as before but for the counts of refused frames
 pub record Unchanged (r q : Rec) : Type 0 where
   pub who : q .who ≡ r .who
   pub round : q .round ≡ r .round

@@ -22,8 +22,8 @@ pub record Open-says (n t w number run : ℕ) (own : List ℕ) (answer : ℕ) (c
   pub done : answer ≡ 0 → column ≡ opened-column (identity n t w number run own)
   pub refused : (answer ≡ 0 → ⊥) → column ≡ no-column
 
--- `take`: the refusal that applies, with the slot's count one higher under 9 to 15; or 0 and the frame in its slot, of this round or of
--- the one that follows; all else as before
+-- `take`: the refusal that applies, under 9 to 15 with the slot's count one higher, if it is not at its top; or 0 and the frame in its
+-- slot, of this round or of the one that follows; all else as before
 pub record Take-says (c : Column) (slot : ℕ) (frame : List ℕ) (answer : ℕ) (c-now : Column) : Type 0 where
   pub answered : answer ≡ take-refusal (view c) slot frame
   pub done : answer ≡ 0 → c-now ≡ with-slot c slot frame

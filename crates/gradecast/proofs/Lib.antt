@@ -9,4 +9,5 @@ pub mod Cases
 pub mod EveryStep
 pub mod NothingFollows
 pub mod NothingTold
+pub mod Counting
 pub mod Refused

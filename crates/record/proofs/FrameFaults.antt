@@ -1,5 +1,5 @@
 -- Which refusals are the frame's fault, and counted: a frame's own lines are, whichever applies, and no other line of any call is. So a frame
--- that is refused for its own fault came in the slot of another column. Assumes nothing.
+-- that is refused for its own fault came in a neighbour's slot. Assumes nothing.
 use mathlib.Core.Path.{_≡_, refl, sym, _∙_, ap}
 use mathlib.Core.Bool.{Bool, true, false, cond, _&&_, not}
 use mathlib.Core.List.{List, [], _∷_}
@@ -18,31 +18,49 @@ use Rattle.record.proofs.Refusal.{first-of-zero, first-of-here, slot-in
 use Rattle.record.proofs.FrameRefusal.{take-lines}
 
 -- what a refusal leaves of the column's record
-pub uncounted : (a k : ℕ) (c : Column) → frame-fault a ≡ false → after-refusal a k c ≡ c
+pub refusal-keeps : (a k : ℕ) (c : Column) → frame-fault a ≡ false → after-refusal a k c ≡ c
 unfolding after-refusal
-uncounted a k c h = rw h refl
+refusal-keeps a k c h = rw h refl
 
-pub counted : (a k : ℕ) (c : Column) → frame-fault a ≡ true → after-refusal a k c ≡ with-counts c (one-more (c .refused) k)
+pub refusal-counts : (a k : ℕ) (c : Column) → frame-fault a ≡ true → after-refusal a k c ≡ with-counts c (one-more (c .refused) k)
 unfolding after-refusal
-counted a k c h = rw h refl
+refusal-counts a k c h = rw h refl
+
+-- what holds of 0 and of each line holds of the first that applies
+module _ (P : ℕ → Type 0) (none : P 0) where
+  line-holds : (m : ℕ) (t : Bool) → P m → P (line m t)
+  unfolding line
+  line-holds m true h = h
+  line-holds m false h = none
+
+  first-holds : (a : ℕ) (rest : List ℕ) → P a → P (first-of rest) → P (first-of (a ∷ rest))
+  unfolding first-of
+  first-holds a rest h l = go (eqb a 0)
+    where
+      go : (q : Bool) → P (cond q (first-of rest) a)
+      go true = l
+      go false = h
+
+  none-holds : P (first-of [])
+  unfolding first-of
+  none-holds = none
 
 -- lines that are not a frame's own
-other-line : (m : ℕ) (t : Bool) → frame-fault m ≡ false → frame-fault (line m t) ≡ false
-unfolding line frame-fault
-other-line m true h = h
-other-line m false h = refl
+abbrev Other : ℕ → Type 0
+Other a = frame-fault a ≡ false
 
-other-more : (a : ℕ) (rest : List ℕ) → frame-fault a ≡ false → frame-fault (first-of rest) ≡ false → frame-fault (first-of (a ∷ rest)) ≡ false
-unfolding first-of
-other-more a rest h l = go (eqb a 0)
-  where
-    go : (q : Bool) → frame-fault (cond q (first-of rest) a) ≡ false
-    go true = l
-    go false = h
+other-zero : Other 0
+unfolding frame-fault
+other-zero = refl
 
-other-none : frame-fault (first-of []) ≡ false
-unfolding first-of frame-fault
-other-none = refl
+other-line : (m : ℕ) (t : Bool) → Other m → Other (line m t)
+other-line = line-holds Other other-zero
+
+other-more : (a : ℕ) (rest : List ℕ) → Other a → Other (first-of rest) → Other (first-of (a ∷ rest))
+other-more = first-holds Other other-zero
+
+other-none : Other (first-of [])
+other-none = none-holds Other other-zero
 
 settings-other : (s : Settings) → frame-fault (settings-refusal s) ≡ false
 unfolding settings-refusal frame-fault
@@ -80,55 +98,43 @@ pub ask-other : (r : Rec) → frame-fault (ask-refusal r) ≡ false
 unfolding ask-refusal unfinished-refusal frame-fault
 ask-other r = other-more _ _ (record-other (r .who)) (other-more _ _ (other-line 17 _ refl) other-none)
 
--- the frame's own
-record Own (a : ℕ) : Type 0 where
-  fault : (a ≡ 0 → ⊥) → frame-fault a ≡ true
+-- a frame's own lines
+abbrev Fault : ℕ → Type 0
+Fault a = (a ≡ 0 → ⊥) → frame-fault a ≡ true
 
-own-line : (m : ℕ) (t : Bool) → frame-fault m ≡ true → Own (line m t)
-unfolding line
-own-line m true h = record { fault = λ z. h }
-own-line m false h = record { fault = λ z. absurd (z refl) }
+fault-line : (m : ℕ) (t : Bool) → frame-fault m ≡ true → Fault (line m t)
+fault-line m t h = line-holds Fault (λ z. absurd (z refl)) m t (λ z. h)
 
-own-more : (a : ℕ) (rest : List ℕ) → Own a → Own (first-of rest) → Own (first-of (a ∷ rest))
-unfolding first-of
-own-more a rest h l = go (eqb a 0)
-  where
-    go : (q : Bool) → Own (cond q (first-of rest) a)
-    go true = l
-    go false = h
-
-own-none : Own (first-of [])
-unfolding first-of
-own-none = record { fault = λ z. absurd (z refl) }
-
-frame-lines : (s : Settings) (run m k : ℕ) (there : Bool) (bs : List ℕ) → Own (frame-refusal s run m k there bs)
-unfolding frame-refusal short-refusal command-refusal length-refusal sender-refusal run-refusal other-round-refusal repeated-refusal frame-fault
-frame-lines s run m k there bs =
-    own-more _ _ (own-line 9 _ refl)
-    (own-more _ _ (own-line 10 _ refl)
-    (own-more _ _ (own-line 11 _ refl)
-    (own-more _ _ (own-line 12 _ refl)
-    (own-more _ _ (own-line 13 _ refl) (own-more _ _ (own-line 14 _ refl) (own-more _ _ (own-line 15 _ refl) own-none))))))
+fault-more : (a : ℕ) (rest : List ℕ) → Fault a → Fault (first-of rest) → Fault (first-of (a ∷ rest))
+fault-more = first-holds Fault (λ z. absurd (z refl))
 
 pub frame-counts :
     (s : Settings) (run m k : ℕ) (there : Bool) (bs : List ℕ) → (frame-refusal s run m k there bs ≡ 0 → ⊥) →
     frame-fault (frame-refusal s run m k there bs) ≡ true
-frame-counts s run m k there bs e = frame-lines s run m k there bs .fault e
+unfolding frame-refusal short-refusal command-refusal length-refusal sender-refusal run-refusal other-round-refusal repeated-refusal frame-fault
+frame-counts s run m k there bs =
+    fault-more _ _ (fault-line 9 _ refl)
+    (fault-more _ _ (fault-line 10 _ refl)
+    (fault-more _ _ (fault-line 11 _ refl)
+    (fault-more _ _ (fault-line 12 _ refl)
+    (fault-more _ _ (fault-line 13 _ refl)
+    (fault-more _ _ (fault-line 14 _ refl) (fault-more _ _ (fault-line 15 _ refl) (none-holds Fault (λ z. absurd (z refl)))))))))
 
--- a frame that is refused for its own fault: its slot is one of the group's, and not the reader's own
-pub record Faulty (r : Rec) (k : ℕ) : Type 0 where
+-- a neighbour's slot: one of the group's, and not the column's own
+pub record Neighbour (r : Rec) (k : ℕ) : Type 0 where
   pub low : 1 ≤ k
   pub high : k ≤ r .who .settings .n
   pub few : r .who .settings .n ≤ most-columns
   pub other : k ≡ r .who .number → ⊥
 
-pub faulty-of : (r : Rec) (k : ℕ) (bs : List ℕ) → frame-fault (take-refusal r k bs) ≡ true → Faulty r k
-faulty-of r k bs fault = go (eqb before 0) refl
+-- a frame that is refused for its own fault came in one
+pub neighbour-of : (r : Rec) (k : ℕ) (bs : List ℕ) → frame-fault (take-refusal r k bs) ≡ true → Neighbour r k
+neighbour-of r k bs fault = go (eqb before 0) refl
   where
     before : ℕ
     before = first-of (record-refusal (r .who) ∷ round-refusal (r .round) ∷ slot-refusal (r .who .settings .n) (r .who .number) k ∷ [])
 
-    go : (q : Bool) → eqb before 0 ≡ q → Faulty r k
+    go : (q : Bool) → eqb before 0 ≡ q → Neighbour r k
     go true e =
         let record-line = first-of-zero _ _ (eqb-true before 0 e) in
         let round-line = first-of-zero _ _ (record-line .1) in

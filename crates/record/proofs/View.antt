@@ -173,10 +173,16 @@ view-slot c k bs e =
     )
 
 -- one more frame refused
+pub count-there : (cs : List ℕ) (k : ℕ) → 1 ≤ k → count-at cs k ≡ getD cs (k - 1) 0
+unfolding count-at
+count-there cs zero low = absurd (omega arith)
+count-there cs (suc k) low = ap (λ (i : ℕ). getD cs i 0) (let e : k ≡ suc k - 1 = omega arith in e)
+
 counts-read : (n k : ℕ) (cs : List ℕ) → 1 ≤ k → k ≤ n → take n (one-more cs k) ≡ one-more (take n cs) k
-unfolding one-more count-at
+unfolding one-more
 counts-read n k cs low high =
-    take-set-lt n cs (k - 1) _ (omega arith) ∙ ap (λ (a : ℕ). set (take n cs) (k - 1) (raised a)) (sym (getD-take n cs (k - 1) 0 (omega arith)))
+    let count = count-there cs k low ∙ sym (getD-take n cs (k - 1) 0 (omega arith)) ∙ sym (count-there (take n cs) k low) in
+    take-set-lt n cs (k - 1) _ (omega arith) ∙ ap (λ (a : ℕ). set (take n cs) (k - 1) (raised a)) count
 
 pub view-refused : (c : Column) (k : ℕ) → 1 ≤ k → k ≤ c .who .n → view (with-counts c (one-more (c .refused) k)) ≡ with-refused (view c) k
 unfolding view settings-of settings with-counts with-refused

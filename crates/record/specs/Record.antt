@@ -50,7 +50,7 @@ unfoldable pub nothing-found : Found
 nothing-found = found-as [] [] [] [] []
 
 -- the record: who the column is; what came in, by slot, as operands: the frames of this round, and those of the round that follows, which
--- came early; what it has found; its round, 1 to 4, where 4 is finished; and how many of its frames were refused, by slot
+-- came early; what it has found; its round, 1 to 4, where 4 is finished; and how many frames it has refused, by the slot that they came in
 pub record Rec : Type 0 where
   pub who : Who
   pub frames : List (Option (List ℕ))
@@ -108,7 +108,8 @@ raised n = cond (ltb n count-top) (suc n) n
 
 -- the count of a slot; slots count from 1
 unfoldable pub count-at : (counts : List ℕ) → (slot : ℕ) → ℕ
-count-at cs k = getD cs (k - 1) 0
+count-at cs zero = 0
+count-at cs (suc k) = getD cs k 0
 
 -- counts by slot with one more in this one
 unfoldable pub one-more : (counts : List ℕ) → (slot : ℕ) → List ℕ

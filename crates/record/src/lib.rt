@@ -54,7 +54,7 @@ pub struct Findings {
 }
 
 // A record: who the column is, what came in by slot, for its round and early for the one that follows, what it has found, its round, 1
-// to 4, and how many of its frames were refused, by slot.
+// to 4, and how many frames it has refused, by the slot that they came in.
 #[repr(C)]
 pub struct Column {
     pub who: Identity,

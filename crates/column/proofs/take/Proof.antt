@@ -13,7 +13,7 @@ use Rattle.code.specs.Settings.{settings, settings-refusal}
 use Rattle.code.specs.Size.{most-columns}
 use Rattle.code.proofs.ValidSettings.{sizes}
 use Rattle.record.specs.Frame.{longest-frame, round-in}
-use Rattle.record.specs.Record.{raised, who-as, count-at, one-more}
+use Rattle.record.specs.Record.{raised, who-as, one-more}
 use Rattle.record.specs.Refusal.{first-of, record-refusal, round-refusal, slot-refusal, frame-refusal, take-refusal, frame-fault}
 use Rattle.record.specs.View.{settings-of, who-in, view}
 use Rattle.record.specs.Stored.{frame-slot, slots-with, with-slot, with-counts}
@@ -21,9 +21,9 @@ use Rattle.record.specs.declared.Slot.{Slot}
 use Rattle.record.specs.declared.Column.{Column}
 use Rattle.record.proofs.Refusal.{first-of-zero, first-of-here, first-of-next, first-of-last, slot-inside, record-settings}
 use Rattle.record.proofs.FrameRefusal.{taken-of, take-lines, frame-four, frame-refusal-there}
-use Rattle.record.proofs.FrameFaults.{uncounted, counted, before-frame, frame-counts}
+use Rattle.record.proofs.FrameFaults.{refusal-keeps, refusal-counts, before-frame, frame-counts}
 use Rattle.record.proofs.Size.{frame-fits-slot}
-use Rattle.record.proofs.View.{slot-there}
+use Rattle.record.proofs.View.{slot-there, count-there}
 use Rattle.column.proofs.take.Statement.{statement}
 use Rattle.column.proofs.take.Tie as tie
 
@@ -44,7 +44,7 @@ returns-4 c =
     record {
       answered = sym (take-lines (view (a .t1)) (a .slot) (a .frame .now) ∙ first-of-here _ (sym e) number);
       done = λ z. absurd (number z);
-      refused = λ z. sym (uncounted _ _ (a .t1) (rw e (before-frame (who-in (a .t1 .who)) (a .t1 .round) (a .slot))));
+      refused = λ z. sym (refusal-keeps _ _ (a .t1) (rw e (before-frame (who-in (a .t1 .who)) (a .t1 .round) (a .slot))));
     }
 
 -- past those lines
@@ -108,7 +108,7 @@ element-write-column : tie.Need-element-write-column
 element-write-column c = omega (arith, passed (else-at (c .before .before .before)))
 
 returns-3 : tie.Need-returns-3
-unfolding with-counts one-more count-at
+unfolding with-counts one-more
 returns-3 c =
     let e = c .before .before in
     let f = e .before in
@@ -119,7 +119,10 @@ returns-3 c =
       answered = frame-answer f;
       done = λ z. absurd (number z);
       refused =
-          λ z. ap (λ (n : ℕ). with-counts (a .t1) (set (a .t1 .refused) (a .slot - 1) n)) (c .raised .ensures) ∙ sym (counted _ (a .slot) (a .t1) counts);
+          λ z.
+          ap (λ (n : ℕ). with-counts (a .t1) (set (a .t1 .refused) (a .slot - 1) n))
+          (c .raised .ensures ∙ ap raised (sym (count-there (a .t1 .refused) (a .slot) (passed (else-at f) .low))))
+          ∙ sym (refusal-counts _ (a .slot) (a .t1) counts);
     }
 
 -- nothing is refused

@@ -1,14 +1,14 @@
--- A count can reach its top: column 1 is handed an empty frame in column 2's slot, again and again. After so many calls its count is so
--- much, as far as a count goes; all its other counts are 0. Assumes nothing.
+-- A count can reach its top: column 1 is handed an empty frame in column 2's slot, again and again. After m calls that slot's count is m, or
+-- the top where m is more, and all others are 0; from a record at the top on, it stays there. Assumes nothing.
 use mathlib.Core.Path.{_≡_, refl, sym, _∙_, subst}
 use mathlib.Core.Bool.{Bool, true, false, cond}
 use mathlib.Core.List.{[], _∷_}
-use Prim.Native.Nat.{ℕ, zero, suc, _+_}
+use Prim.Native.Nat.{ℕ, zero, suc, _+_, min}
 use native.Mathlib.Nat.{zero-add, add-zero}
 use native.Mathlib.Omega.{arith}
-use lib.Dec.{ltb, leb}
+use lib.Dec.{ltb}
 use lib.ListN.{replicate}
-use borrow.Author.Tests.{lt-leb, le-leb, ltb-true, ltb-false}
+use borrow.Author.Tests.{ltb-true, ltb-false}
 use Rattle.arrays.specs.Array.{in-front, padded}
 use Rattle.code.specs.Settings.{settings, settings-refusal, value-size}
 use Rattle.grading.specs.Value.{is-blank}
@@ -20,25 +20,21 @@ use Rattle.record.specs.declared.Column.{Column}
 use Rattle.column.specs.Call.{taking}
 use Rattle.column.specs.Entry.{Open-says, Take-says}
 use Rattle.gradecast.specs.Built.{takes, Built-run, no-step, one-step, Built, Built-ran}
-use Rattle.gradecast.specs.Refused.{up-to-top, refused-of}
-use Rattle.gradecast.proofs.Refused.{top-reached}
+use Rattle.gradecast.specs.Refused.{refused-of, Top-stays}
+use Rattle.gradecast.proofs.Refused.{top-stays}
 use Rattle.exchanges.proofs.Examples.Exchange.{four}
 
 -- column 1 after so many
 unfoldable pub flooded : ℕ → Column
-flooded m = with-counts (opened-column (identity 4 1 1 1 7 (241 ∷ []))) (0 ∷ up-to-top m ∷ replicate 30 0)
+flooded m = with-counts (opened-column (identity 4 1 1 1 7 (241 ∷ []))) (0 ∷ min m count-top ∷ replicate 30 0)
 
-top-next : (m : ℕ) → up-to-top (suc m) ≡ raised (up-to-top m)
-unfolding up-to-top raised
-top-next m = go (ltb m count-top) refl
+top-next : (m : ℕ) → min (suc m) count-top ≡ raised (min m count-top)
+unfolding raised
+top-next m = go (ltb (min m count-top) count-top) refl
   where
-    go : (q : Bool) → ltb m count-top ≡ q →
-        cond (leb (suc m) count-top) (suc m) count-top ≡ cond (ltb (cond (leb m count-top) m count-top) count-top) (suc (cond (leb m count-top) m count-top)) (cond (leb m count-top) m count-top)
-    go true e = let low = ltb-true m count-top e in rw (le-leb (suc m) count-top low, le-leb m count-top (omega arith), e) refl
-    go false e =
-        let high = ltb-false m count-top e in
-        let held = top-reached m high in
-        rw (lt-leb (suc m) count-top (omega arith), held) refl
+    go : (q : Bool) → ltb (min m count-top) count-top ≡ q → min (suc m) count-top ≡ cond q (suc (min m count-top)) (min m count-top)
+    go true e = omega (arith, ltb-true (min m count-top) count-top e)
+    go false e = omega (arith, ltb-false (min m count-top) count-top e)
 
 -- one more
 flood-step : (m : ℕ) → Take-says (flooded m) 2 [] 9 (flooded (suc m))
@@ -70,17 +66,19 @@ flood m =
     }
 
 opened : Open-says 4 1 1 1 7 (241 ∷ []) 0 (flooded 0)
-unfolding flooded up-to-top with-counts opened-column settings settings-refusal first-of line open-refusal number-refusal size-refusal blank-refusal is-blank
+unfolding flooded with-counts opened-column settings settings-refusal first-of line open-refusal number-refusal size-refusal blank-refusal is-blank
 opened = record { answered = refl; done = λ z. refl; refused = λ z. absurd (z refl) }
 
 pub flood-ran : (m : ℕ) → Built-ran four 7 (flood m)
 unfolding flood
 flood-ran m = record { opening = opened; steps = flood-run m 0 m (add-zero m) }
 
-pub flood-count : (m : ℕ) → refused-of (flood m .last) 2 ≡ up-to-top m
-unfolding flood flooded with-counts count-at
-flood-count m = refl
-
--- at its top, after five calls more
+-- five calls more than a count can count
 pub top-example : (b : Built) × Built-ran four 7 b × (refused-of (b .last) 2 ≡ count-top)
-top-example = (flood (count-top + 5), flood-ran (count-top + 5), flood-count (count-top + 5) ∙ top-reached (count-top + 5) (omega arith))
+unfolding flood flooded with-counts count-at
+top-example = (flood (count-top + 5), flood-ran (count-top + 5), refl)
+
+-- the last five of them, by the theorem
+pub stays-example : refused-of (flooded (count-top + 5)) 2 ≡ count-top
+unfolding Top-stays flooded with-counts count-at
+stays-example = top-stays (flooded count-top) (flooded (count-top + 5)) _ _ (flood-run 5 count-top (count-top + 5) refl) 2 refl

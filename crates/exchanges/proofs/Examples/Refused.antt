@@ -2,19 +2,17 @@
 -- reach its top, so that the counts of each column add up to its answers 9 to 15. Assumes nothing.
 use mathlib.Core.Path.{_≡_, refl, _∙_, ap, subst}
 use mathlib.Core.List.{List, [], _∷_, map}
-use Prim.Native.Nat.{ℕ, _<_, _≤_}
+use Prim.Native.Nat.{_<_}
 use native.Mathlib.Omega.{arith}
 use lib.Dec.{ltb}
 use lib.ListN.{length}
 use borrow.Author.Tests.{ltb-true}
-use Rattle.code.specs.Size.{most-columns}
-use Rattle.record.specs.Record.{count-top}
 use Rattle.record.specs.Refusal.{frame-fault}
 use Rattle.gradecast.specs.Promise.{Among, Good}
 use Rattle.gradecast.specs.Built.{Built, Built-ran, defined}
-use Rattle.gradecast.specs.Refused.{faults, sum, refused-of, Refused-counted}
+use Rattle.gradecast.specs.Refused.{faults, sum, None-at-top, Refused-counted, Short-below-top}
 use Rattle.gradecast.proofs.Goods.{among-map}
-use Rattle.gradecast.proofs.Refused.{short-below, refused-counted}
+use Rattle.gradecast.proofs.Refused.{refused-counted, short-below-top}
 use Rattle.exchanges.proofs.Building.Tested.{Outcome, goods, computed}
 use Rattle.exchanges.proofs.Testing.Conditions.{good, every, every-tested}
 use Rattle.exchanges.proofs.Examples.Exchange.{four, script}
@@ -41,11 +39,12 @@ pub record Witness (bs : List Built) : Type 0 where
   pub ran : (b : Built) → Among b bs → Built-ran four 7 b
   pub by-slot : map (λ g. g .last .refused) (map defined bs) ≡ (0 ∷ 4 ∷ 2 ∷ 2 ∷ []) ∷ (1 ∷ 0 ∷ 0 ∷ 5 ∷ []) ∷ (1 ∷ 1 ∷ 0 ∷ 0 ∷ []) ∷ []
   pub answers : map faults (map (λ b. b .answers) bs) ≡ 8 ∷ 6 ∷ 2 ∷ []
-  pub below : (b : Built) → Among b bs → (k : ℕ) → 1 ≤ k → k ≤ most-columns → refused-of (b .last) k < count-top
+  pub below : (b : Built) → Among b bs → None-at-top 4 (b .last)
   pub total : (b : Built) → Among b bs → sum (b .last .refused) ≡ faults (b .answers)
 
-below : (b : Built) → Among b columns → (k : ℕ) → 1 ≤ k → k ≤ most-columns → refused-of (b .last) k < count-top
-below b i = short-below four 7 b (columns-conditions .ran b i) (omega (arith, short b i))
+below : (b : Built) → Among b columns → None-at-top 4 (b .last)
+unfolding Short-below-top
+below b i = short-below-top four 7 b (columns-conditions .ran b i) (omega (arith, short b i))
 
 pub refused-example : (bs : List Built) × Witness bs
 unfolding Refused-counted
