@@ -29,6 +29,9 @@ pub struct Identity {
     pub own: [u8; VALUE_ROOM],
 }
 
+// The top of a count of refused frames.
+const COUNT_TOP: u32 = 4294967295;
+
 // What came in from one sender for a round: whether its frame was taken, which any number but 0 says, and the frame.
 #[repr(C)]
 pub struct Slot {
@@ -126,7 +129,7 @@ pub fn vector_size(n: u32, w: u32) -> usize
 pub fn raised(count: u32) -> u32
     ensures { λ r. ⌜ r ≡ raised-of count ⌝ }
 {
-    if count == 4294967295 {
+    if count == COUNT_TOP {
         return count;
     }
     count + 1
