@@ -5,3 +5,4 @@ pub mod Power
 pub mod Logarithm
 pub mod Division
 pub mod Table
+pub mod Exponents

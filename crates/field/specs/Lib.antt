@@ -1,2 +1,3 @@
 pub mod Field
 pub mod Table
+pub mod Exponents

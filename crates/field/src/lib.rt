@@ -1,6 +1,7 @@
-// The field of 256 elements: products, inverses and powers of 2 by two constant tables.
+// The field of 256 elements: products and inverses by two constant tables.
 //
 // Every contract holds for all bytes. The functions whose names end in `_by` take the tables as a loan, for loops.
+pub mod long;
 mod tables;
 
 pub use tables::logarithms;
@@ -41,7 +42,7 @@ pub fn product_by(powers: &[u8; 255], logarithms: &[u8; 256], a: u8, b: u8) -> u
 }
 
 // The exponent below 255 of the same power of 2. No branch is left of it where it is compiled.
-fn reduced(exponent: usize) -> usize
+pub fn reduced(exponent: usize) -> usize
     requires { ⌜ exponent < 510 ⌝ }
     ensures { λ r. ⌜ (r < 255) × (power 2 r ≡ power 2 exponent) ⌝ }
 {
@@ -76,14 +77,6 @@ pub fn inverse(a: u8) -> u8
     let powers = powers();
     let logarithms = logarithms();
     inverse_by(&powers, &logarithms, a)
-}
-
-// The power of 2 with any exponent: they repeat after 255.
-pub fn power_of_two(exponent: u32) -> u8
-    ensures { λ r. ⌜ r ≡ power 2 exponent ⌝ }
-{
-    let powers = powers();
-    powers[(exponent % 255) as usize]
 }
 
 fn wide(x: u8) -> usize
