@@ -1,5 +1,5 @@
 -- How the register works out check values.
-pub mod Factors
+pub mod Feedbacks
 pub mod Division
 pub mod CheckValues
 pub mod Entry

@@ -2,3 +2,4 @@
 pub mod Terms
 pub mod CheckRows
 pub mod CheckSums
+pub mod RootPowers

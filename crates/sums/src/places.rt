@@ -36,6 +36,17 @@ pub fn step_on(exponent: usize, step: usize) -> usize
     exponent - back
 }
 
+// A step back.
+pub fn step_back(exponent: usize, step: usize) -> usize
+    requires { ⌜ (exponent < 255) × (step < 255) ⌝ }
+    ensures { λ r. ⌜ (r < 255) × (power 2 (r + step) ≡ power 2 exponent) ⌝ }
+{
+    if step <= exponent {
+        return exponent - step;
+    }
+    exponent + 255 - step
+}
+
 // The powers of 2 with the exponents start, start + step, start + 2·step and so on.
 pub fn progression(powers: &[u8; 255], start: usize, step: usize, constants: &mut [u8])
     requires { ⌜ Powers (now powers) × (start < 255) × (step < 255) ⌝ }
@@ -86,6 +97,8 @@ pub fn put_all_tables(coefficients: &[u8], many: usize, tables: &mut [u8])
 
 // Each plane's polynomial at the place with this exponent, written into the row of bytes from `at` on: the first row of
 // coefficients, and to it each other, times the place's power.
+// The sum is a row of its own until it is whole: in the bytes that are lent it would be stored byte by byte at every turn, since
+// they could be those of a table.
 pub fn put_values(
     powers: &[u8; 255],
     tables: &[u8],
@@ -99,12 +112,14 @@ pub fn put_values(
     requires { ⌜ (exponent < 255) × (1 ≤ many) × (many ≤ most-bad + 1) × (row-width * many ≤ length (now coefficients)) × (at + row-width ≤ length (now rows)) ⌝ }
     ensures { λ _. ⌜ Written at row-width (λ p. eval (lane p many (now (coefficients .entry))) (power 2 exponent)) (now (rows .entry)) (now (rows .exit)) ⌝ }
 {
-    arrays::copy(rows, at, coefficients, 0, ROW_WIDTH);
+    let mut row = [0u8; ROW_WIDTH];
+    arrays::copy(&mut row, 0, coefficients, 0, ROW_WIDTH);
     let mut raised = exponent;
     let mut m = 1;
     while m < many {
-        lanes::add_from_tables(tables, TABLE_ROOM * m, powers[raised], rows, at);
+        lanes::add_from_tables(tables, TABLE_ROOM * m, powers[raised], &mut row, 0);
         raised = step_on(raised, exponent);
         m += 1;
     }
+    arrays::copy(rows, at, &row, 0, ROW_WIDTH);
 }

@@ -28,11 +28,11 @@ eval-lane-more p many bs x byte h =
     ∙ times-comm (power x many) (getD bs (in-row many p) 0) (power-lt x many) (byte _))
 
 -- a row of values, row of coefficients by row of coefficients, from the row into which the first was copied
-abbrev pub Values-put : (at m exponent : ℕ) → (coefficients rows now : List ℕ) → Type 0
-Values-put at m exponent coefficients rows now = Written at row-width (λ p. eval (lane p m coefficients) (power 2 exponent)) rows now
+abbrev pub Values-put : (m exponent : ℕ) → (coefficients row now : List ℕ) → Type 0
+Values-put m exponent coefficients row now = Written 0 row-width (λ p. eval (lane p m coefficients) (power 2 exponent)) row now
 
-module _ (at exponent : ℕ) (coefficients rows copied : List ℕ) (byte : (i : ℕ) → getD coefficients i 0 < 256) (first : Written at row-width (λ p. getD coefficients (0 + p) 0) rows copied) where
-  pub values-first : Values-put at 1 exponent coefficients copied copied
+module _ (exponent : ℕ) (coefficients row copied : List ℕ) (byte : (i : ℕ) → getD coefficients i 0 < 256) (first : Written 0 row-width (λ p. getD coefficients (0 + p) 0) row copied) where
+  pub values-first : Values-put 1 exponent coefficients copied copied
   unfolding lane
   values-first =
       record {
@@ -45,9 +45,9 @@ module _ (at exponent : ℕ) (coefficients rows copied : List ℕ) (byte : (i : 
       }
 
   pub values-more :
-      (m raised : ℕ) (middle now : List ℕ) → raised ≡ power (power 2 exponent) m → Values-put at m exponent coefficients copied middle →
-      Written at row-width (λ p. plus (getD middle (at + p) 0) (times (getD coefficients (in-row m p) 0) raised)) middle now →
-      Values-put at (m + 1) exponent coefficients copied now
+      (m raised : ℕ) (middle now : List ℕ) → raised ≡ power (power 2 exponent) m → Values-put m exponent coefficients copied middle →
+      Written 0 row-width (λ p. plus (getD middle (0 + p) 0) (times (getD coefficients (in-row m p) 0) raised)) middle now →
+      Values-put (m + 1) exponent coefficients copied now
   values-more m raised middle now e w v =
       record {
         long = v .long ∙ w .long;
@@ -60,14 +60,10 @@ module _ (at exponent : ℕ) (coefficients rows copied : List ℕ) (byte : (i : 
         after = λ i h. v .after i h ∙ w .after i h;
       }
 
-  pub values-whole : (m many : ℕ) (now : List ℕ) → m ≡ many → Values-put at m exponent coefficients copied now → Values-put at many exponent coefficients rows now
-  values-whole m many now e w =
-      record {
-        long = w .long ∙ first .long;
-        new = λ p h. w .new p h ∙ ap (λ (k : ℕ). eval (lane p k coefficients) (power 2 exponent)) e;
-        before = λ i h. w .before i h ∙ first .before i h;
-        after = λ i h. w .after i h ∙ first .after i h;
-      }
+  pub values-whole :
+      (m many : ℕ) (now : List ℕ) → m ≡ many → Values-put m exponent coefficients copied now →
+      (p : ℕ) → p < row-width → getD now (0 + p) 0 ≡ eval (lane p many coefficients) (power 2 exponent)
+  values-whole m many now e w p h = w .new p h ∙ ap (λ (k : ℕ). eval (lane p k coefficients) (power 2 exponent)) e
 
 -- tables, one row of coefficients more
 pub tables-first : (coefficients tables : List ℕ) → table-room ≤ length tables → Coefficient-tables 1 coefficients tables
