@@ -4,7 +4,8 @@ pub mod Shape
 pub mod Massey
 pub mod Size
 pub mod Roots
-pub mod Held
+pub mod Reached
+pub mod AllReached
 pub mod Along
 pub mod Recurrence
 pub mod Progression

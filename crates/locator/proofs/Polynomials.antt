@@ -4,4 +4,6 @@ pub mod Monic
 pub mod Against
 pub mod Steps
 pub mod Horner
+pub mod Fraction
 pub mod Coefficients
+pub mod Dropped

@@ -1,5 +1,5 @@
 pub mod Locator
 pub mod Errors
 pub mod Search
-pub mod Held
+pub mod Reached
 pub mod Plane

@@ -1,207 +1,263 @@
-// A plane's locator, by Berlekamp and Massey, and the error at a place.
+// The locators of all planes, by Berlekamp and Massey.
 //
-// A polynomial is its coefficients, lowest power first. Every function takes the field's two tables as a loan.
+// A polynomial is its coefficients, lowest power first. A locator stands at the end of its array, zeros in front of it, so that nothing
+// moves where a power of x comes in. The planes take each power sum in turn: their steps do not wait for one another.
 
 ghost use mathlib.Core.Path.{_≡_};
 ghost use Prim.Native.Nat.{_+_, _*_, _-_, _<_, _≤_};
-ghost use lib.ListN.{length, getD, take};
-ghost use Rattle.field.specs.Table.{Powers, Logarithms};
-ghost use Rattle.lanes.specs.Lanes.{row-width, in-row, lane};
-ghost use Rattle.code.specs.Size.{plane-room};
+ghost use lib.ListN.{length, getD, drop};
+ghost use Rattle.field.specs.Field.{power};
+ghost use Rattle.field.specs.Exponents.{Long-powers, Long-logarithms};
+ghost use Rattle.lanes.specs.Lanes.{row-width, in-row};
+ghost use Rattle.code.specs.Size.{plane-room, value-room};
 ghost use Rattle.code.specs.Polynomial.{added, «scaled»};
-ghost use Rattle.locator.specs.Locator.{against, «raised», value, massey, longer, «as-long»};
-ghost use Rattle.locator.specs.Held.{Stands, Carries, located};
+ghost use Rattle.locator.specs.Locator.{against, «raised», massey};
+ghost use Rattle.locator.specs.Reached.{Reaches, All-reach, First-locators, All-located};
 use code::sizes::PLANE_ROOM;
+use code::sizes::VALUE_ROOM;
+use field::long::LONG_POWERS;
+use field::long::exponent_of;
+use field::long::product_long;
+use field::long::raised_long;
 use lanes::ROW_WIDTH;
 
-// The locator, monic of degree `size`, and the last one before it grew, scaled to discrepancy 1. Coefficients past theirs are 0.
-pub struct Locator {
-    pub locator: [u8; PLANE_ROOM],
-    pub before: [u8; PLANE_ROOM],
+// Room for a polynomial of each plane.
+pub const PLANES_ROOM: usize = VALUE_ROOM * PLANE_ROOM;
+
+// Where the highest coefficient of a locator stands.
+const TOP: usize = PLANE_ROOM - 1;
+
+// How far a plane has come: the size of its locator, where in its array the last one before it grew starts, and the exponent of the factor
+// that scales that one to discrepancy 1.
+pub struct Reached {
     pub size: usize,
+    pub from: usize,
+    pub scale: usize,
 }
 
-// The locator against the power sums from j on.
+// The locators, and their sizes.
+pub struct Locators {
+    pub locators: [u8; PLANES_ROOM],
+    pub sizes: [usize; VALUE_ROOM],
+}
+
+// The locator against the power sums of plane p from j on.
 fn discrepancy(
-    powers: &[u8; 255],
-    logarithms: &[u8; 256],
-    locator: &[u8; PLANE_ROOM],
-    size: usize,
+    powers: &[u8; LONG_POWERS],
+    logarithms: &[u16; 256],
+    locator: &[u8],
     sums: &[u8],
+    p: usize,
     j: usize,
 ) -> u8
-    requires { ⌜ Powers (now powers) × Logarithms (now logarithms) ⌝ }
-    requires { ⌜ (length (now locator) ≡ plane-room) × (size < plane-room) × (j + size < length (now sums)) ⌝ }
-    ensures { λ r. ⌜ r ≡ against (take (size + 1) (now (locator .entry))) (λ i. getD (now (sums .entry)) i 0) j ⌝ }
+    requires { ⌜ Long-powers (now powers) × Long-logarithms (now logarithms) ⌝ }
+    requires { ⌜ (p < row-width) × (length (now locator) ≤ plane-room) × (j ≤ plane-room) × (row-width * (j + length (now locator)) ≤ length (now sums)) ⌝ }
+    ensures { λ r. ⌜ r ≡ against (now (locator .entry)) (λ i. getD (now (sums .entry)) (in-row i p) 0) j ⌝ }
 {
     let mut sum: u8 = 0;
-    let mut m = size + 1;
+    let mut m = locator.len();
     while 0 < m {
         m -= 1;
-        sum = field::sum(
-            field::product_by(powers, logarithms, locator[m], sums[j + m]),
-            sum,
-        );
+        let at = ROW_WIDTH * (j + m) + p;
+        sum = field::sum(product_long(powers, logarithms, locator[m], sums[at]), sum);
     }
     sum
 }
 
-// The weighted error of plane p at the place x, 0 where x is no root. One loop over the rows of coefficients and sums gives the
-// locator's value at x, and its quotient's value and sum against the power sums.
-pub fn error_at(
-    powers: &[u8; 255],
-    logarithms: &[u8; 256],
-    coefficients: &[u8],
-    sums: &[u8],
-    p: usize,
-    many: usize,
-    x: u8,
-) -> u8
-    requires { ⌜ Powers (now powers) × Logarithms (now logarithms) ⌝ }
-    requires { ⌜ (p < row-width) × (row-width * many ≤ length (now coefficients)) × (row-width * many ≤ length (now sums)) ⌝ }
-    ensures { λ r. ⌜ r ≡ value (λ i. getD (now (sums .entry)) (in-row i p) 0) (lane p many (now (coefficients .entry))) x ⌝ }
-{
-    let mut whole: u8 = 0;
-    let mut divided: u8 = 0;
-    let mut sum: u8 = 0;
-    let mut m = many;
-    while 0 < m {
-        m -= 1;
-        let at = ROW_WIDTH * m + p;
-        sum = field::sum(field::product_by(powers, logarithms, whole, sums[at]), sum);
-        divided = field::sum(whole, field::product_by(powers, logarithms, x, divided));
-        whole = field::sum(
-            coefficients[at],
-            field::product_by(powers, logarithms, x, whole),
-        );
-    }
-    if whole == 0 {
-        return field::product_by(
-            powers,
-            logarithms,
-            sum,
-            field::inverse_by(powers, logarithms, divided),
-        );
-    }
-    0
-}
-
-// The coefficient of x^i in the polynomial times x^shift.
-fn raised_at(polynomial: &[u8; PLANE_ROOM], shift: usize, i: usize) -> u8
-    requires { ⌜ (length (now polynomial) ≡ plane-room) × (i < plane-room) ⌝ }
-    ensures { λ r. ⌜ r ≡ getD (raised shift (now (polynomial .entry))) i 0 ⌝ }
-{
-    if shift <= i {
-        return polynomial[i - shift];
-    }
-    0
-}
-
-// Adds `factor` times the other polynomial.
+// Adds a power of 2 times the other polynomial.
 fn add_scaled(
-    powers: &[u8; 255],
-    logarithms: &[u8; 256],
+    powers: &[u8; LONG_POWERS],
+    logarithms: &[u16; 256],
     polynomial: &mut [u8],
-    factor: u8,
+    exponent: usize,
     other: &[u8],
 )
-    requires { ⌜ Powers (now powers) × Logarithms (now logarithms) ⌝ }
+    requires { ⌜ Long-powers (now powers) × Long-logarithms (now logarithms) × (exponent < 255) ⌝ }
     requires { ⌜ length (now other) ≤ length (now polynomial) ⌝ }
-    ensures { λ r. ⌜ now (polynomial .exit) ≡ added (now (polynomial .entry)) (scaled factor (now (other .entry))) ⌝ }
+    ensures { λ r. ⌜ now (polynomial .exit) ≡ added (now (polynomial .entry)) (scaled (power 2 exponent) (now (other .entry))) ⌝ }
 {
     let mut i = 0;
     while i < other.len() {
         polynomial[i] = field::sum(
             polynomial[i],
-            field::product_by(powers, logarithms, factor, other[i]),
+            raised_long(powers, logarithms, exponent, other[i]),
         );
         i += 1;
     }
 }
 
-// A discrepancy at k that makes the locator longer: x^(k + 1 - 2 size) times the locator, and a multiple of the one before it.
-// Both arrays change from the last coefficient down, so that a turn reads only coefficients that are still the old ones.
-fn lengthen(
-    powers: &[u8; 255],
-    logarithms: &[u8; 256],
-    locator: &mut [u8; PLANE_ROOM],
-    before: &mut [u8; PLANE_ROOM],
-    size: usize,
-    k: usize,
-    discrepancy: u8,
-)
-    requires { ⌜ Powers (now powers) × Logarithms (now logarithms) ⌝ }
-    requires { ⌜ (length (now locator) ≡ plane-room) × (length (now before) ≡ plane-room) ⌝ }
-    requires { ⌜ (2 * size ≤ k) × (k + 1 < plane-room) ⌝ }
-    ensures { λ _. ⌜ Carries k (longer k discrepancy) (located (now (locator .entry)) (now (before .entry)) size)
-        (located (now (locator .exit)) (now (before .exit)) (k + 1 - size)) ⌝ }
-{
-    let inverse = field::inverse_by(powers, logarithms, discrepancy);
-    let shift = k + 1 - 2 * size;
-    let mut i = k + 2 - size;
-    while 0 < i {
-        i -= 1;
-        let last = locator[i];
-        locator[i] = field::sum(
-            raised_at(locator, shift, i),
-            field::product_by(powers, logarithms, discrepancy, before[i]),
-        );
-        before[i] = field::product_by(powers, logarithms, inverse, last);
-    }
-}
-
-// Any other discrepancy but 0: a multiple of the one before comes in, times a power of x that keeps the degree.
+// To the locator's array a power of 2 times the polynomial before it is added, from a place on.
 fn amend(
-    powers: &[u8; 255],
-    logarithms: &[u8; 256],
+    powers: &[u8; LONG_POWERS],
+    logarithms: &[u16; 256],
     locator: &mut [u8],
     before: &[u8],
-    size: usize,
-    k: usize,
-    discrepancy: u8,
+    exponent: usize,
+    to: usize,
+    from: usize,
 )
-    requires { ⌜ Powers (now powers) × Logarithms (now logarithms) ⌝ }
-    requires { ⌜ (length (now locator) ≡ plane-room) × (length (now before) ≡ plane-room) ⌝ }
-    requires { ⌜ (size ≤ k) × (k < 2 * size) × (k + 1 < plane-room) ⌝ }
-    ensures { λ _. ⌜ Carries k (as-long k discrepancy) (located (now (locator .entry)) (now (before .entry)) size)
-        (located (now (locator .exit)) (now (before .entry)) size) ⌝ }
+    requires { ⌜ Long-powers (now powers) × Long-logarithms (now logarithms) × (exponent < 255) ⌝ }
+    requires { ⌜ (length (now locator) ≡ plane-room) × (length (now before) ≡ plane-room) × (to ≤ from) × (from ≤ plane-room) ⌝ }
+    ensures { λ _. ⌜ now (locator .exit) ≡ added (now (locator .entry)) (scaled (power 2 exponent) (raised to (drop from (now (before .entry))))) ⌝ }
 {
-    let shift = 2 * size - (k + 1);
     add_scaled(
         powers,
         logarithms,
-        &mut locator[shift..],
-        discrepancy,
-        &before[..k + 1 - size],
+        &mut locator[to..],
+        exponent,
+        &before[from..],
     );
 }
 
-// The locator of the first `many` power sums.
-pub fn locate(powers: &[u8; 255], logarithms: &[u8; 256], sums: &[u8], many: usize) -> Locator
-    requires { ⌜ Powers (now powers) × Logarithms (now logarithms) ⌝ }
-    requires { ⌜ (many ≤ length (now sums)) × (many < plane-room) ⌝ }
-    ensures { λ r. ⌜ Stands r (massey (λ i. getD (now (sums .entry)) i 0) many) ⌝ }
+// The same, and what the locator was becomes the one before it.
+fn lengthen(
+    powers: &[u8; LONG_POWERS],
+    logarithms: &[u16; 256],
+    locator: &mut [u8],
+    before: &mut [u8],
+    exponent: usize,
+    to: usize,
+    from: usize,
+)
+    requires { ⌜ Long-powers (now powers) × Long-logarithms (now logarithms) × (exponent < 255) ⌝ }
+    requires { ⌜ (length (now locator) ≡ plane-room) × (length (now before) ≡ plane-room) × (to ≤ from) × (from ≤ plane-room) ⌝ }
+    ensures { λ _. ⌜ (now (locator .exit) ≡ added (now (locator .entry)) (scaled (power 2 exponent) (raised to (drop from (now (before .entry))))))
+        × (now (before .exit) ≡ now (locator .entry)) ⌝ }
 {
-    let mut locator = [0u8; PLANE_ROOM];
-    locator[0] = 1;
-    let mut before = [0u8; PLANE_ROOM];
-    let mut size = 0;
+    let mut last = [0u8; PLANE_ROOM];
+    arrays::copy(&mut last, 0, locator, 0, PLANE_ROOM);
+    amend(powers, logarithms, locator, before, exponent, to, from);
+    arrays::copy(before, 0, &last, 0, PLANE_ROOM);
+}
+
+// Power sum k of plane p. A discrepancy but 0 adds a multiple of the locator before, times a power of x; where that makes the locator
+// longer, it gives way to the one that was.
+fn step(
+    powers: &[u8; LONG_POWERS],
+    logarithms: &[u16; 256],
+    locator: &mut [u8],
+    before: &mut [u8],
+    sums: &[u8],
+    p: usize,
+    at: Reached,
+    k: usize,
+) -> Reached
+    requires { ⌜ Long-powers (now powers) × Long-logarithms (now logarithms) ⌝ }
+    requires { ⌜ (p < row-width) × (k + 1 < plane-room) × (row-width * (k + 1) ≤ length (now sums)) ⌝ }
+    requires { ⌜ Reaches (massey (λ i. getD (now sums) (in-row i p) 0) k) (now locator) (now before) at ⌝ }
+    ensures { λ r. ⌜ Reaches (massey (λ i. getD (now (sums .entry)) (in-row i p) 0) (k + 1)) (now (locator .exit)) (now (before .exit)) r ⌝ }
+{
+    let size = at.size;
+    let from = at.from;
+    let start = TOP - size;
+    let d = discrepancy(powers, logarithms, &locator[start..], sums, p, k - size);
+    if d == 0 {
+        return at;
+    }
+    let own = exponent_of(logarithms, d);
+    let exponent = field::reduced(own + at.scale);
+    let to = TOP + size - (k + 1);
+    if 2 * size <= k {
+        lengthen(powers, logarithms, locator, before, exponent, to, from);
+        return Reached {
+            size: k + 1 - size,
+            from: start,
+            scale: 255 - own,
+        };
+    }
+    amend(powers, logarithms, locator, before, exponent, to, from);
+    at
+}
+
+// Power sum k of each plane.
+fn step_all(
+    powers: &[u8; LONG_POWERS],
+    logarithms: &[u16; 256],
+    locators: &mut [u8],
+    befores: &mut [u8],
+    sizes: &mut [usize],
+    froms: &mut [usize],
+    scales: &mut [usize],
+    sums: &[u8],
+    planes: usize,
+    k: usize,
+)
+    requires { ⌜ Long-powers (now powers) × Long-logarithms (now logarithms) ⌝ }
+    requires { ⌜ (planes ≤ value-room) × (k + 1 < plane-room) × (row-width * (k + 1) ≤ length (now sums)) ⌝ }
+    requires { ⌜ All-reach planes (λ _. k) (now sums) (now locators) (now befores) (now sizes) (now froms) (now scales) ⌝ }
+    ensures { λ _. ⌜ All-reach planes (λ _. k + 1) (now (sums .entry)) (now (locators .exit)) (now (befores .exit)) (now (sizes .exit)) (now (froms .exit)) (now (scales .exit)) ⌝ }
+{
+    let mut p = 0;
+    while p < planes {
+        let start = PLANE_ROOM * p;
+        let end = start + PLANE_ROOM;
+        let at = Reached {
+            size: sizes[p],
+            from: froms[p],
+            scale: scales[p],
+        };
+        let next = step(
+            powers,
+            logarithms,
+            &mut locators[start..end],
+            &mut befores[start..end],
+            sums,
+            p,
+            at,
+            k,
+        );
+        sizes[p] = next.size;
+        froms[p] = next.from;
+        scales[p] = next.scale;
+        p += 1;
+    }
+}
+
+// The locator of no power sums, which is 1, in every plane.
+fn first_locators() -> [u8; PLANES_ROOM]
+    ensures { λ r. ⌜ First-locators r ⌝ }
+{
+    let mut locators = [0u8; PLANES_ROOM];
+    let mut p = 0;
+    while p < VALUE_ROOM {
+        locators[PLANE_ROOM * p + TOP] = 1;
+        p += 1;
+    }
+    locators
+}
+
+// The locators of the first `many` power sums of each plane.
+pub fn locate_all(
+    powers: &[u8; LONG_POWERS],
+    logarithms: &[u16; 256],
+    sums: &[u8],
+    many: usize,
+    planes: usize,
+) -> Locators
+    requires { ⌜ Long-powers (now powers) × Long-logarithms (now logarithms) ⌝ }
+    requires { ⌜ (planes ≤ value-room) × (many < plane-room) × (row-width * many ≤ length (now sums)) ⌝ }
+    ensures { λ r. ⌜ All-located planes many (now (sums .entry)) (r .locators) (r .sizes) ⌝ }
+{
+    let mut locators = first_locators();
+    let mut befores = [0u8; PLANES_ROOM];
+    let mut sizes = [0usize; VALUE_ROOM];
+    let mut froms = [PLANE_ROOM; VALUE_ROOM];
+    let mut scales = [0usize; VALUE_ROOM];
     let mut k = 0;
     while k < many {
-        let d = discrepancy(powers, logarithms, &locator, size, sums, k - size);
-        if d != 0 {
-            if 2 * size <= k {
-                lengthen(powers, logarithms, &mut locator, &mut before, size, k, d);
-                size = k + 1 - size;
-            } else {
-                amend(powers, logarithms, &mut locator, &before, size, k, d);
-            }
-        }
+        step_all(
+            powers,
+            logarithms,
+            &mut locators,
+            &mut befores,
+            &mut sizes,
+            &mut froms,
+            &mut scales,
+            sums,
+            planes,
+            k,
+        );
         k += 1;
     }
-    Locator {
-        locator: locator,
-        before: before,
-        size: size,
-    }
+    Locators { locators, sizes }
 }

@@ -1,4 +1,4 @@
-// The decoder of one plane of a word: its locator, the error at a root, and the test for one error.
+// The decoder of one plane of a word: its locator, and the test for one error.
 pub mod berlekamp;
 pub mod plane;
 pub mod single;

@@ -1,22 +1,10 @@
-// One plane of the rows: its bytes taken out and put in.
+// One plane of the rows: its bytes put in.
 ghost use Prim.Native.Nat.{_*_, _≤_, _<_};
 ghost use lib.ListN.{length, getD};
-ghost use Rattle.arrays.specs.Array.{Filled};
 ghost use Rattle.code.specs.Size.{plane-room};
-ghost use Rattle.lanes.specs.Lanes.{row-width, in-row};
+ghost use Rattle.lanes.specs.Lanes.{row-width};
 ghost use Rattle.locator.specs.Plane.{Lane-written};
-use code::sizes::PLANE_ROOM;
 use lanes::ROW_WIDTH;
-
-// Plane p of the first rows.
-pub fn plane_of(rows: &[u8], p: usize, many: usize) -> [u8; PLANE_ROOM]
-    requires { ⌜ (p < row-width) × (many ≤ plane-room) × (row-width * many ≤ length (now rows)) ⌝ }
-    ensures { λ r. ⌜ Filled plane-room many (λ j. getD (now (rows .entry)) (in-row j p) 0) r ⌝ }
-{
-    let mut plane = [0u8; PLANE_ROOM];
-    arrays::gather(&mut plane, rows, ROW_WIDTH, p, many);
-    plane
-}
 
 // The bytes become plane p of the first rows.
 pub fn put_plane(rows: &mut [u8], p: usize, bytes: &[u8])

@@ -1,6 +1,6 @@
 -- The state of the locator after k numbers, whatever they are: the locator is monic of degree `size`, at most k, and the one
 -- before it is short enough to be added below the top. Each step keeps this, in each of its three cases. Assumes nothing.
-use mathlib.Core.Path.{_≡_, refl, subst}
+use mathlib.Core.Path.{_≡_, refl, _∙_, ap, subst}
 use Prim.Native.Nat.{ℕ, zero, suc, _+_, _*_, _-_, _<_, _≤_}
 use native.Mathlib.Omega.{arith}
 use native.Mathlib.Decide.{ℕ-discrete, decLe}
@@ -10,6 +10,7 @@ use Rattle.field.specs.Field.{inverse}
 use Rattle.arrays.proofs.Bytes.{Bytes}
 use Rattle.code.proofs.Polynomials.Arithmetic.{length-scaled, bytes-scaled}
 use Rattle.locator.specs.Locator.{against, raised, State, start, longer, as-long, changed, massey}
+use Rattle.locator.proofs.Polynomials.Against.{against-same}
 use Rattle.locator.proofs.Polynomials.Monic.{Monic, monic-length, monic-bytes, monic-raised, monic-added}
 use Rattle.locator.proofs.Polynomials.Raised.{raised-length}
 
@@ -94,3 +95,16 @@ module _ (k : ℕ) (s : State) (h : State-shape k s) where
 
   pub locator-bytes : Bytes (s .locator)
   locator-bytes = monic-bytes (s .size) (s .locator) (h .monic)
+
+pub massey-length : (S : ℕ → ℕ) (k : ℕ) → length (massey S k .locator) ≡ suc (massey S k .size)
+massey-length S k = locator-length k (massey S k) (massey-shape S k)
+
+-- the state after k numbers hangs on them alone
+pub massey-same : (S T : ℕ → ℕ) (k : ℕ) → ((i : ℕ) → i < k → S i ≡ T i) → massey S k ≡ massey T k
+unfolding massey
+massey-same S T zero e = refl
+massey-same S T (suc k) e =
+    let h = massey-shape S k in
+    ap (λ (d : ℕ). changed k d (massey S k))
+    (against-same S T (suc k) e (massey S k .locator) (k - massey S k .size) (omega (arith, h .below, massey-length S k)))
+    ∙ ap (λ (s : State). changed k (against (s .locator) T (k - s .size)) s) (massey-same S T k (λ i l. e i (omega arith)))

@@ -1,39 +1,41 @@
--- `locator::amend` meets its contract: the part of the locator from the shift on is added to, and put back in its place.
+-- `locator::amend` meets its contract: the part of the locator from the place on is added to, and put back in its place.
 -- Assumes nothing.
-use mathlib.Core.Path.{sym, ap}
+use mathlib.Core.Path.{_∙_, ap}
 use mathlib.Core.List.{List, _++_}
-use Prim.Native.Nat.{ℕ, _+_, _-_, _*_}
+use Prim.Native.Nat.{ℕ, _+_, _-_}
 use native.Mathlib.Omega.{arith}
-use lib.ListN.{length, take, drop, length-take, length-drop}
-use lib.Seq.{length-take-le}
+use lib.ListN.{length, take, drop, length-drop}
 use borrow.Author.Needs.{needs}
-use Rattle.locator.specs.Held.{located}
-use Rattle.locator.proofs.Locator.Held.{carries-as-long}
+use Rattle.field.specs.Field.{power}
+use Rattle.field.proofs.Power.{power-lt}
+use Rattle.arrays.proofs.Bytes.{bytes-every}
+use Rattle.code.specs.Polynomial.{added, scaled}
+use Rattle.locator.specs.Locator.{raised}
+use Rattle.locator.proofs.Polynomials.Coefficients.{added-middle}
+use Rattle.locator.proofs.Polynomials.Dropped.{drop-lent}
 use Rattle.locator.proofs.berlekamp.amend.Statement.{statement}
 use Rattle.locator.proofs.berlekamp.amend.Tie as tie
 
-slice-aggregate-add-scaled : tie.Need-slice-aggregate-add-scaled
-slice-aggregate-add-scaled c =
-    let y = c .before .before .before .before .args in
-    sym (length-take-le (y .k + 1 - y .size) (y .before .now) (omega arith))
-
 add-scaled-requires : tie.Need-add-scaled-requires
 add-scaled-requires c κs =
-    let d = c .before .before .before .before in
-    let y = d .args in
-    let s = 2 * y .size - (y .k + 1) in
-    let p = y .locator .now in
-    (d .pre .0, omega (arith, length-take (y .k + 1 - y .size) (y .before .now), length-take (length p - s) (drop s p), length-drop s p))
+    let s = c .before .before .before .before in
+    let p = s .args .locator .now in
+    let q = s .args .before .now in
+    (s .pre .0, omega (arith, ap length (drop-lent (s .args .to) p), length-drop (s .args .to) p, ap length (drop-lent (s .args .from) q), length-drop (s .args .from) q))
 
 returns : tie.Need-returns
 returns c =
-    let added = c .before .before in
-    let y = added .before .before .before .before .before .args in
-    let s = 2 * y .size - (y .k + 1) in
+    let added-to = c .before .before in
+    let known = added-to .before .before .before .before in
+    let y = known .before .args in
     let p = y .locator .now in
-    carries-as-long (y .k) (y .discrepancy) (omega arith) (located p (y .before .now) (y .size)) (length p - s) _
-    (omega arith) (omega arith) (omega arith) (omega arith)
-    (ap (λ (q : List ℕ). take s p ++ (q ++ drop (length p - s) (drop s p))) (added .add-scaled .ensures))
+    let q = drop (y .from) (y .before .now) in
+    let part = take (length (y .before .now) - y .from) q in
+    ap (λ (r : List ℕ). take (y .to) p ++ (r ++ drop (length p - y .to) (drop (y .to) p))) (added-to .add-scaled .ensures)
+    ∙ added-middle (power 2 (y .exponent)) (y .to) (length p - y .to) p part (power-lt 2 (y .exponent)) (bytes-every p (λ i. known .slice-known .given i .fits))
+    (omega (arith, ap length (drop-lent (y .from) (y .before .now)), length-drop (y .from) (y .before .now)))
+    (omega (arith, ap length (drop-lent (y .from) (y .before .now)), length-drop (y .from) (y .before .now)))
+    ∙ ap (λ (r : List ℕ). added p (scaled (power 2 (y .exponent)) (raised (y .to) r))) (drop-lent (y .from) (y .before .now))
 
 pub amend-spec : {M : Type 1} → statement M
 amend-spec =
@@ -45,9 +47,6 @@ amend-spec =
     (λ c. omega arith)
     (λ c. omega arith)
     (λ c. omega arith)
-    (λ c. omega arith)
-    (λ c. omega arith)
-    slice-aggregate-add-scaled
     add-scaled-requires
     (λ c. search needs)
     returns)

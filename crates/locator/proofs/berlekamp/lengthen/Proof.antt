@@ -1,89 +1,51 @@
--- `locator::lengthen` meets its contract: the loop has made both arrays anew from i on, and below i they are as they were, which
--- is all that a turn reads. Assumes nothing.
-use mathlib.Core.Path.{_≡_, _∙_, ap, ap₂, subst}
-use Prim.Native.Nat.{ℕ, _+_, _-_, _*_, _≤_}
+-- `locator::lengthen` meets its contract: the locator is copied first, and then over the one before it. Assumes nothing.
+use mathlib.Core.Path.{_≡_, refl, _∙_, ap}
+use mathlib.Core.List.{List}
+use Prim.Native.Nat.{ℕ, _+_}
 use native.Mathlib.Omega.{arith}
-use lib.ListN.{getD}
+use lib.ListN.{length, getD}
 use borrow.Author.Needs.{needs}
-use Rattle.field.specs.Field.{plus, times}
-use Rattle.locator.specs.Locator.{raised}
-use Rattle.locator.specs.Held.{located}
-use Rattle.locator.proofs.Polynomials.Coefficients.{raised-below, Remade, remade-none, remade-more, remade-all}
-use Rattle.locator.proofs.Locator.Held.{carries-longer}
+use Rattle.arrays.specs.Array.{Written}
+use Rattle.arrays.proofs.Front.{copied, front-whole}
+use Rattle.code.specs.Size.{plane-room}
 use Rattle.locator.proofs.berlekamp.lengthen.Statement.{statement}
 use Rattle.locator.proofs.berlekamp.lengthen.Tie as tie
 
-abbrev Inv-loop : tie.InvT-loop
-Inv-loop powers logarithms locator₀ before₀ size k discrepancy inverse shift i₀ locator before i =
-    (i ≤ k + 2 - size)
-    × Remade (k + 2 - size) i (λ j. plus (getD (raised shift locator₀) j 0) (times discrepancy (getD before₀ j 0))) locator₀ locator
-    × Remade (k + 2 - size) i (λ j. times inverse (getD locator₀ j 0)) before₀ before
+amend-requires : tie.Need-amend-requires
+amend-requires c κs = let s = c .before .before .before .before .before .before .before .before in (s .pre .0, s .pre .1)
 
-abbrev μ-loop : tie.MeasureT-loop
-μ-loop powers logarithms locator₀ before₀ size k discrepancy inverse shift i₀ locator before i = i
+-- an array copied whole
+whole : (new old now : List ℕ) → length new ≡ plane-room → length old ≡ plane-room → Written 0 plane-room (λ p. getD new (0 + p) 0) old now → now ≡ new
+whole new old now e f w = copied plane-room new old now e (omega arith) w ∙ front-whole new old (omega arith)
 
-inverse-by-requires : tie.Need-inverse-by-requires Inv-loop μ-loop
-inverse-by-requires c κs = c .pre .0
+-- what was copied first
+last-is : (c : tie.After-copy) → c .copy .last .0 ≡ c .before .before .before .before .before .args .locator .now
+last-is c = let s = c .before .before .before .before .before in whole _ _ _ (s .pre .1 .0) refl (c .copy .ensures)
 
-loop-holds : tie.Need-loop-holds Inv-loop μ-loop
-loop-holds c = (omega arith, remade-none _ _ _, remade-none _ _ _)
+copy-requires-2 : tie.Need-copy-requires-2
+copy-requires-2 c κs =
+    let kept = c .before .before .before .before .before .before .before .before in
+    let s = kept .before .before .before .before .before in
+    (omega (arith, s .pre .1 .1), omega (arith, s .pre .1 .0, ap length (last-is kept)))
 
-raised-at-requires : tie.Need-raised-at-requires Inv-loop μ-loop
-raised-at-requires c κs = (omega arith, omega arith)
-
-loop-again : tie.Need-loop-again Inv-loop μ-loop
-loop-again c =
-    let raised = c .before .before .before .before in
-    let d = raised .before .before .before .before in
-    let y = d .before .before .args in
-    let i = d .loop .i in
-    let v = d .loop .inv .1 in
-    let w = d .loop .inv .2 in (
-      omega arith,
-      remade-more _ i _ _ _ _ v (omega arith) (omega arith) (omega arith)
-          (c .before .sum .ensures
-          ∙ ap₂ plus
-          (raised .raised-at .ensures
-          ∙ raised-below (y .k + 1 - 2 * y .size) (i - 1) i _ _ (omega arith) (v .below))
-          (c .before .before .product-by .ensures ∙ ap (times (y .discrepancy)) (w .below (i - 1) (omega arith)))),
-      remade-more _ i _ _ _ _ w (omega arith) (omega arith) (omega arith)
-          (c .product-by2 .ensures ∙ ap (times _) (v .below (i - 1) (omega arith))),
-    )
-
-returns : tie.Need-returns Inv-loop μ-loop
+returns : tie.Need-returns
 returns c =
-    let d = c .before in
-    let y = d .before .before .args in
-    let p = y .locator .now in
-    let q = y .before .now in
-    let e : d .loop .i ≡ 0 = omega arith in
-    carries-longer (y .k) (y .discrepancy) (omega arith) (located p q (y .size)) _ _ (omega arith) (omega arith)
-    (remade-all e (d .loop .inv .1))
-    (subst (λ (x : ℕ). Remade (y .k + 2 - y .size) 0 (λ j. times x (getD p j 0)) q (d .loop .before)) (d .before .inverse-by .ensures)
-    (remade-all e (d .loop .inv .2)))
+    let amended = c .before .before .before .before .before .before .before in
+    let kept = amended .before .before .before .before in
+    let s = kept .before .before .before .before .before in (
+      amended .amend .ensures,
+      whole _ _ _ (ap length (last-is kept) ∙ s .pre .1 .0) (s .pre .1 .1) (c .before .before .copy2 .ensures) ∙ last-is kept,
+    )
 
 pub lengthen-spec : {M : Type 1} → statement M
 lengthen-spec =
     tie.close
     (tie.spec
-    Inv-loop
-    μ-loop
-    inverse-by-requires
-    (λ c. omega arith)
-    (λ c. omega arith)
-    (λ c. omega arith)
-    (λ c. omega arith)
-    (λ c. omega arith)
-    loop-holds
-    (λ c. omega arith)
-    (λ c. omega arith)
-    raised-at-requires
-    (λ c. omega arith)
+    (λ c. search needs)
     (λ c κs. search needs)
-    (λ c κs. tt)
-    (λ c. omega arith)
-    (λ c κs. search needs)
-    (λ c. omega arith)
-    (λ c. omega arith)
-    loop-again
+    amend-requires
+    (λ c. search needs)
+    copy-requires-2
+    (λ c. search needs)
+    (λ c. search needs)
     returns)
