@@ -22,18 +22,18 @@ use Rattle.code.specs.Repair.{Near}
 use Rattle.code.proofs.Codewords.Linear.{syndrome-lt}
 use Rattle.sums.specs.Rows.{Check-sums}
 use Rattle.sums.proofs.Sums.CheckSums.{check-sums-syndrome}
-use Rattle.locator.specs.Locator.{State, massey, quotient, value}
+use Rattle.locator.specs.Locator.{State, massey, against, quotient, value}
 use Rattle.locator.specs.Errors.{place-exponent}
 use Rattle.locator.specs.Search.{sought, roots-sought, at-place, roots-below, tries, turns}
 use Rattle.locator.proofs.Polynomials.Against.{against-same}
-use Rattle.locator.proofs.Polynomials.Steps.{value-no-root}
-use Rattle.locator.proofs.Locator.Held.{massey-fitting}
+use Rattle.locator.proofs.Polynomials.Steps.{value-root, value-no-root}
+use Rattle.locator.proofs.Locator.Shape.{massey-length}
 use Rattle.locator.proofs.Errors.Explained.{Located}
 use Rattle.locator.proofs.Errors.Last.{tries-root, turns-all, tried-last}
 use Rattle.locator.proofs.Decoding.Counted.{few-roots-below, located-none, counted-explained, counted-wrong}
 use Rattle.locator.proofs.Decoder.{sound, complete-size, complete-counted}
 use Rattle.search.specs.Planes.{Plane-found, Ended, Decoded}
-use Rattle.search.specs.Steps.{plane-sums, Sought-all, polynomial, Walked, Errors-told}
+use Rattle.search.specs.Steps.{plane-sums, Sought-all, polynomial, Walked, told, Errors-found}
 use Rattle.search.proofs.NoRoots.{one-nowhere, no-roots-below, one-at}
 use Rattle.search.proofs.Seeking.{short-sought, long-sought}
 use Rattle.search.proofs.Told.{weighted-at, weighted-others, numbers-others, weighted-ended}
@@ -45,14 +45,20 @@ quotient-length c [] = omega arith
 quotient-length c (p ∷ []) = omega arith
 quotient-length c (p ∷ q ∷ ps) = omega (arith, quotient-length c (q ∷ ps))
 
-value-same :
-    (S T : ℕ → ℕ) (n : ℕ) → ((i : ℕ) → i < n → S i ≡ T i) → (ps : List ℕ) (x : ℕ) → length ps ≤ n → value S ps x ≡ value T ps x
-unfolding value
-value-same S T n e ps x h =
-    ap (λ (a : ℕ). cond (eqb (eval ps x) 0) (times a (inverse (eval (quotient x ps) x))) 0)
-    (against-same S T n e (quotient x ps) 0 (omega (arith, quotient-length x ps)))
+abbrev by-quotient : (S : ℕ → ℕ) → (ps : List ℕ) → (x : ℕ) → ℕ
+by-quotient S ps x = times (against (quotient x ps) S 0) (inverse (eval (quotient x ps) x))
 
--- no error is told but at a root
+-- at a root it is the error
+value-somewhere :
+    (s : Settings) (S T : ℕ → ℕ) (n : ℕ) → ((i : ℕ) → i < n → S i ≡ T i) → (ps : List ℕ) (j : ℕ) → length ps ≤ n → at-place s ps j ≡ 0 →
+    by-quotient S ps (power 2 (place-exponent (s .n) (check-count s) j)) ≡ value T ps (power 2 (place-exponent (s .n) (check-count s) j))
+unfolding at-place
+value-somewhere s S T n e ps j h z =
+    let x = power 2 (place-exponent (s .n) (check-count s) j) in
+    ap (λ (a : ℕ). times a (inverse (eval (quotient x ps) x))) (against-same S T n e (quotient x ps) 0 (omega (arith, quotient-length x ps)))
+    ∙ sym (value-root T ps x z)
+
+-- no error is but at a root
 value-nowhere :
     (s : Settings) (S : ℕ → ℕ) (ps : List ℕ) (j : ℕ) → (at-place s ps j ≡ 0 → ⊥) → value S ps (power 2 (place-exponent (s .n) (check-count s) j)) ≡ 0
 unfolding at-place
@@ -86,17 +92,11 @@ module _ (s : Settings) where
         behind = w .behind;
       }
 
-  pub told-as :
-      (done : ℕ) (rows sums roots marks weighted : List ℕ) → Errors-told done widest rows sums roots marks weighted →
-      Errors-told done s rows sums roots marks weighted
-  unfolding settings check-count
-  told-as done rows sums roots marks weighted d = record { long = d .long; bytes = d .bytes; each = d .each; ahead = d .ahead; behind = d .behind }
-
 module _ (planes turns-taken : ℕ) (s : Settings) (difference sums roots rows left tried marks weighted : List ℕ) (allowed : settings-refusal s ≡ 0)
     (bytes : (i : ℕ) → getD difference i 0 < 256) (small : planes ≤ value-room) (some : 1 ≤ s .t)
     (summed : Check-sums (check-count s) (check-count s) difference sums) (q : Sought-all planes (check-count s) (s .t) sums roots rows)
     (w : Walked (s .n + check-count s) s rows roots left tried marks) (ended : Ended (s .n + check-count s) tried marks turns-taken)
-    (d : Errors-told turns-taken s rows sums roots marks weighted) where
+    (d : Errors-found turns-taken (λ j p. told rows sums roots p (power 2 (place-exponent (s .n) (check-count s) j))) left marks weighted) where
   module _ (p : ℕ) (h : p < planes) where
     abbrev S : ℕ → ℕ
     S = plane-sums p (check-count s) sums
@@ -149,15 +149,15 @@ module _ (planes turns-taken : ℕ) (s : Settings) (difference sums roots rows l
           w .tried-at p (omega arith) ∙ ap₂ (λ (k : ℕ) (us : List ℕ). turns k (at-place s us) places) many-is polynomial-is
 
       error-is :
-          (j : ℕ) → j < places →
+          (j : ℕ) → j < places → getD left p 0 ≡ 0 →
           getD errors j 0
-          ≡ cond (tries many (at-place s ps) j) (cond (eqb (at-place s ps j) 0) (value (λ i. getD sums (in-row i p) 0) ps (x j)) 0) 0
-      error-is j l =
+          ≡ cond (tries many (at-place s ps) j) (cond (eqb (at-place s ps j) 0) (by-quotient (λ i. getD sums (in-row i p) 0) ps (x j)) 0) 0
+      error-is j l z =
           lane-at p places weighted j l
-          ∙ weighted-at planes places turns-taken s rows sums roots left tried marks weighted (q .others) w ended d j p l (omega arith)
+          ∙ weighted-at planes places turns-taken s _ rows roots left tried marks weighted (q .others) w ended d j p l (omega arith) z
           ∙ ap₂
           (λ (k : ℕ) (us : List ℕ).
-          cond (tries k (at-place s us) j) (cond (eqb (at-place s us j) 0) (value (λ i. getD sums (in-row i p) 0) us (x j)) 0) 0)
+          cond (tries k (at-place s us) j) (cond (eqb (at-place s us j) 0) (by-quotient (λ i. getD sums (in-row i p) 0) us (x j)) 0) 0)
           many-is polynomial-is
 
       -- roots are left
@@ -180,7 +180,7 @@ module _ (planes turns-taken : ℕ) (s : Settings) (difference sums roots rows l
       many-short = short-sought (s .t) state l .1
 
       long-short : length (state .locator) ≡ state .size + 1
-      long-short = omega (arith, massey-fitting S (check-count s) .locator)
+      long-short = omega (arith, massey-length S (check-count s))
 
       at-short : (i : ℕ) → getD (sought (s .t) state) i 0 ≡ getD (state .locator) i 0
       at-short i = ap (λ (us : List ℕ). getD us i 0) (short-sought (s .t) state l .0)
@@ -199,17 +199,19 @@ module _ (planes turns-taken : ℕ) (s : Settings) (difference sums roots rows l
         located =
             record {
               many = lane-length p places weighted;
-              each = λ j k. error-is (state .size) (state .locator) many-short long-short at-short j k ∙ go j k (ℕ-discrete (v j) 0);
+              each = λ j k.
+                  error-is (state .size) (state .locator) many-short long-short at-short j k
+                  (omega (arith, left-is (state .size) (state .locator) many-short long-short at-short, all)) ∙ go j k (ℕ-discrete (v j) 0);
             }
           where
             go :
                 (j : ℕ) → j < places → Dec (v j ≡ 0) →
-                cond (tries (state .size) v j) (cond (eqb (v j) 0) (value (λ i. getD sums (in-row i p) 0) (state .locator) (x j)) 0) 0
+                cond (tries (state .size) v j) (cond (eqb (v j) 0) (by-quotient (λ i. getD sums (in-row i p) 0) (state .locator) (x j)) 0) 0
                 ≡ value S (state .locator) (x j)
             go j k (yes e) =
                 rw (tries-root (state .size) v j places k (omega (arith, all)) e, eq-eqb (v j) 0 e)
-                (value-same (λ i. getD sums (in-row i p) 0) S (check-count s) (λ i g. sym (lane-at p (check-count s) sums i g)) (state .locator) (x j)
-                (omega (arith, room s some, massey-fitting S (check-count s) .locator)))
+                (value-somewhere s (λ i. getD sums (in-row i p) 0) S (check-count s) (λ i g. sym (lane-at p (check-count s) sums i g)) (state .locator) j
+                (omega (arith, room s some, massey-length S (check-count s))) e)
             go j k (no e) = rw (ne-eqb (v j) 0 e) (cond-none (tries (state .size) v j) ∙ sym (value-nowhere s S (state .locator) j e))
 
         found : Plane-found s checks errors (getD left p 0) (getD tried p 0)
@@ -241,7 +243,7 @@ module _ (planes turns-taken : ℕ) (s : Settings) (difference sums roots rows l
         left-long = w .left-long;
         tried-long = w .tried-long;
         each = λ p h. each-plane p h (decLe _ _);
-        others = weighted-others planes places turns-taken s rows sums roots left tried marks weighted (q .others) w ended d;
-        rest = numbers-others planes places turns-taken s rows sums roots left tried marks weighted (q .others) w ended d;
-        ended = weighted-ended planes places turns-taken s rows sums roots left tried marks weighted (q .others) w ended d;
+        others = weighted-others planes places turns-taken s _ rows roots left tried marks weighted (q .others) w ended d;
+        rest = numbers-others planes places turns-taken s _ rows roots left tried marks weighted (q .others) w ended d;
+        ended = weighted-ended planes places turns-taken s _ rows roots left tried marks weighted (q .others) w ended d;
       }

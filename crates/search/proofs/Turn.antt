@@ -24,10 +24,10 @@ module _ (at : ℕ) (values left marks : List ℕ) where
     left-kept = u .fewer .after p (omega arith)
 
     pub roots-more :
-        (f : ℕ) → p < length left → at + p < length marks → f ≡ root-found (getD left-now p 0) (getD values (at + p) 0) →
+        (f : ℕ) → p < length left → at + p < length marks → f ≡ root-found (getD left-now p 0) (getD values p 0) →
         Roots-found (p + 1) at values left (set left-now p (getD left-now p 0 - f)) marks (set marks-now (at + p) f)
     roots-more f h o e =
-        let found : f ≡ root-found (getD left p 0) (getD values (at + p) 0) = e ∙ ap (λ (l : ℕ). root-found l (getD values (at + p) 0)) left-kept in
+        let found : f ≡ root-found (getD left p 0) (getD values p 0) = e ∙ ap (λ (l : ℕ). root-found l (getD values p 0)) left-kept in
         record {
           fewer = stored p (getD left-now p 0 - f) _ left left-now (u .fewer) h (ap₂ (λ (l m : ℕ). l - m) left-kept found);
           marked = written-more at p f _ marks marks-now (u .marked) o found;

@@ -22,22 +22,26 @@ use Rattle.locator.proofs.Errors.Last.{roots-below-mono, tries-left, tries-none
 use Rattle.search.specs.Planes.{Longest}
 use Rattle.search.specs.Steps.{Fits, Same-values, polynomial, Place-counted, root-found, Roots-found, mark, Walked}
 
--- the values by as many coefficients as the longest polynomial has are those by a plane's own: the others are 0
+-- as many coefficients as the longest polynomial has are a plane's own, and zeros behind them
+pub same-coefficients :
+    (most t : ℕ) (rows roots : List ℕ) → Fits t rows roots → Longest roots most → (p : ℕ) → p < value-room →
+    (i : ℕ) → getD (lane p (most + 1) rows) i 0 ≡ getD (polynomial rows roots p) i 0
+same-coefficients most t rows roots f m p h i = go (decLt i (most + 1)) (decLt i (getD roots p 0 + 1))
+  where
+    go : Dec (i < most + 1) → Dec (i < getD roots p 0 + 1) → getD (lane p (most + 1) rows) i 0 ≡ getD (polynomial rows roots p) i 0
+    go (yes a) (yes b) = lane-at p (most + 1) rows i a ∙ sym (lane-at p _ rows i b)
+    go (yes a) (no b) =
+        lane-at p (most + 1) rows i a ∙ f .past p i h (omega arith) ∙ sym (List·getD-eq-default (polynomial rows roots p) 0 (omega (arith, lane-length p (getD roots p 0 + 1) rows)))
+    go (no a) (yes b) = absurd (omega (arith, m .above p))
+    go (no a) (no b) =
+        List·getD-eq-default (lane p (most + 1) rows) 0 (omega (arith, lane-length p (most + 1) rows))
+        ∙ sym (List·getD-eq-default (polynomial rows roots p) 0 (omega (arith, lane-length p (getD roots p 0 + 1) rows)))
+
+-- so the values by them are those by its own
 pub same-values : (most t : ℕ) (rows roots : List ℕ) → Fits t rows roots → Longest roots most → Same-values (most + 1) rows roots
 unfolding Same-values
-same-values most t rows roots f m p x h byte = eval-ext (lane p (most + 1) rows) (polynomial rows roots p) x byte same
-  where
-    same : (i : ℕ) → getD (lane p (most + 1) rows) i 0 ≡ getD (polynomial rows roots p) i 0
-    same i = go (decLt i (most + 1)) (decLt i (getD roots p 0 + 1))
-      where
-        go : Dec (i < most + 1) → Dec (i < getD roots p 0 + 1) → getD (lane p (most + 1) rows) i 0 ≡ getD (polynomial rows roots p) i 0
-        go (yes a) (yes b) = lane-at p (most + 1) rows i a ∙ sym (lane-at p _ rows i b)
-        go (yes a) (no b) =
-            lane-at p (most + 1) rows i a ∙ f .past p i h (omega arith) ∙ sym (List·getD-eq-default (polynomial rows roots p) 0 (omega (arith, lane-length p (getD roots p 0 + 1) rows)))
-        go (no a) (yes b) = absurd (omega (arith, m .above p))
-        go (no a) (no b) =
-            List·getD-eq-default (lane p (most + 1) rows) 0 (omega (arith, lane-length p (most + 1) rows))
-            ∙ sym (List·getD-eq-default (polynomial rows roots p) 0 (omega (arith, lane-length p (getD roots p 0 + 1) rows)))
+same-values most t rows roots f m p x h byte =
+    eval-ext (lane p (most + 1) rows) (polynomial rows roots p) x byte (same-coefficients most t rows roots f m p h)
 
 -- roots are left where not all stand before
 none-left : (many k : ℕ) → eqb (many - k) 0 ≡ true → ltb k many ≡ false
@@ -93,7 +97,7 @@ walked-none t s rows roots tried marks f e z l y =
 
 -- one place more
 module _ (j : ℕ) (s : Settings) (rows roots values left left-now tried tried-now marks marks-now : List ℕ)
-    (here : (p : ℕ) → p < value-room → getD values (row-width * j + p) 0 ≡ at-place s (polynomial rows roots p) j)
+    (here : (p : ℕ) → p < value-room → getD values p 0 ≡ at-place s (polynomial rows roots p) j)
     (w : Walked j s rows roots left tried marks) (counted : Place-counted left tried tried-now)
     (u : Roots-found value-room (row-width * j) values left left-now marks marks-now) where
   abbrev v : ℕ → ℕ → ℕ

@@ -1,42 +1,45 @@
 -- What the steps of the search find and leave: a reader of the promises needs none of it. Assumes nothing: these are definitions.
 use mathlib.Core.Path.{_≡_}
-use mathlib.Core.Bool.{cond}
+use mathlib.Core.Bool.{Bool, true, false, cond}
 use mathlib.Core.List.{List, [], _∷_}
-use Prim.Native.Nat.{ℕ, _+_, _*_, _-_, _≤_, _<_}
+use Prim.Native.Nat.{ℕ, suc, _+_, _*_, _-_, _/_, _≤_, _<_}
 use lib.Dec.{eqb}
-use lib.ListN.{length, getD}
+use lib.ListN.{length, getD, drop}
 use Rattle.arrays.specs.Array.{Written}
-use Rattle.field.specs.Field.{power}
+use Rattle.field.specs.Field.{times, power, inverse}
 use Rattle.lanes.specs.Lanes.{row-width, in-row, lane}
 use Rattle.code.specs.Size.{value-room, place-rows, locator-rows}
-use Rattle.code.specs.Settings.{Settings, settings, check-count}
+use Rattle.code.specs.Settings.{Settings, settings}
 use Rattle.code.specs.Polynomial.{eval}
-use Rattle.locator.specs.Locator.{massey, value}
-use Rattle.locator.specs.Errors.{place-exponent}
-use Rattle.locator.specs.Held.{Holds}
+use Rattle.locator.specs.Locator.{massey, against, quotient}
+use Rattle.locator.specs.Plane.{Lane-written}
 use Rattle.locator.specs.Search.{sought, roots-sought, at-place, roots-below, tries, turns}
 use Rattle.search.specs.Planes.{Ended}
-use Rattle.search.specs.declared.locators.Sought.{Sought}
 use Rattle.search.specs.declared.places.Found.{Found}
 
 -- the power sums of plane p, as a sequence
 abbrev pub plane-sums : (p count : ℕ) → (sums : List ℕ) → ℕ → ℕ
 plane-sums p count sums i = getD (lane p count sums) i 0
 
--- a polynomial and a number of roots as one plane looks for them
-pub record Looks (found : Sought) (roots : ℕ) (list : List ℕ) : Type 0 where
-  pub size : found .size ≡ roots
-  pub coefficients : Holds (found .coefficients) list
+-- the coefficients of a polynomial are put into plane p of the rows
+abbrev pub Lane-put : (p : ℕ) → (list rows rows-now : List ℕ) → Type 0
+Lane-put p list rows rows-now = Lane-written p (length list) (λ j. getD list j 0) rows rows-now
 
--- the locator of a geometric progression by its first number and its ratio
-pub record Short-locator (first ratio : ℕ) (found : Sought) : Type 0 where
-  pub none : first ≡ 0 → Looks found 0 (1 ∷ [])
-  pub one : (first ≡ 0 → ⊥) → Looks found 1 (ratio ∷ 1 ∷ [])
+-- the locator of a geometric progression, by its first number and its ratio, and how many roots it has
+pub record Short-put (p first ratio roots : ℕ) (rows rows-now : List ℕ) : Type 0 where
+  pub none : first ≡ 0 → (roots ≡ 0) × Lane-put p (1 ∷ []) rows rows-now
+  pub one : (first ≡ 0 → ⊥) → (roots ≡ 1) × Lane-put p (ratio ∷ 1 ∷ []) rows rows-now
+
+-- a locator and all of its roots, or where these are more than t, one root of the polynomial 1
+pub record Found-put (p t : ℕ) (locator : List ℕ) (roots : ℕ) (rows rows-now : List ℕ) : Type 0 where
+  pub short : length locator ≤ t + 1 → (roots + 1 ≡ length locator) × Lane-put p locator rows rows-now
+  pub long : t + 1 < length locator → (roots ≡ 1) × Lane-put p (1 ∷ []) rows rows-now
 
 -- what plane p looks for
-pub record Seeks (p count t : ℕ) (sums : List ℕ) (found : Sought) : Type 0 where
-  pub looks : let state = massey (plane-sums p count sums) count in Looks found (roots-sought t state) (sought t state)
-  pub small : found .size ≤ t
+pub record Seeks (p count t : ℕ) (sums : List ℕ) (roots : ℕ) (rows rows-now : List ℕ) : Type 0 where
+  pub size : roots ≡ roots-sought t (massey (plane-sums p count sums) count)
+  pub small : roots ≤ t
+  pub put : Lane-put p (sought t (massey (plane-sums p count sums) count)) rows rows-now
 
 -- what the first planes look for, the coefficients in rows, and zeros for the other planes
 pub record Sought-all (planes count t : ℕ) (sums roots rows : List ℕ) : Type 0 where
@@ -47,6 +50,12 @@ pub record Sought-all (planes count t : ℕ) (sums roots rows : List ℕ) : Type
   pub coefficient : (p m : ℕ) → p < planes → getD rows (in-row m p) 0 ≡ getD (sought t (massey (plane-sums p count sums) count)) m 0
   pub others : (p : ℕ) → planes ≤ p → getD roots p 0 ≡ 0
   pub blank : (p m : ℕ) → planes ≤ p → p < row-width → getD rows (in-row m p) 0 ≡ 0
+
+-- where the answer is yes, the first planes look for this whatever t is, if rows and numbers were zeros
+unfoldable pub Short-all : (answer : Bool) → (planes count : ℕ) → (sums roots rows roots-now rows-now : List ℕ) → Type 0
+Short-all false planes count sums roots rows roots-now rows-now = Unit {0}
+Short-all true planes count sums roots rows roots-now rows-now =
+    (t : ℕ) → 1 ≤ t → Sought-all 0 count t sums roots rows → Sought-all planes count t sums roots-now rows-now
 
 -- no plane looks for more than t roots or has coefficients past them
 pub record Fits (t : ℕ) (rows roots : List ℕ) : Type 0 where
@@ -72,8 +81,8 @@ root-found l v = cond (eqb l 0) 0 (cond (eqb v 0) 1 0)
 
 -- at a place each of the first planes that finds a root marks it and has one fewer; every other byte is kept
 pub record Roots-found (planes at : ℕ) (values left left-now marks marks-now : List ℕ) : Type 0 where
-  pub fewer : Written 0 planes (λ p. getD left p 0 - root-found (getD left p 0) (getD values (at + p) 0)) left left-now
-  pub marked : Written at planes (λ p. root-found (getD left p 0) (getD values (at + p) 0)) marks marks-now
+  pub fewer : Written 0 planes (λ p. getD left p 0 - root-found (getD left p 0) (getD values p 0)) left left-now
+  pub marked : Written at planes (λ p. root-found (getD left p 0) (getD values p 0)) marks marks-now
 
 -- the mark that the walk leaves at place j of plane p: 1 where the place is tried and a root
 abbrev pub mark : Settings → (rows roots : List ℕ) → (j p : ℕ) → ℕ
@@ -96,24 +105,62 @@ pub record Walked-through (n t : ℕ) (rows roots : List ℕ) (found : Found) : 
   pub walked : Walked (n + 2 * t) (settings n t value-room) rows roots (found .left) (found .tried) (found .marks)
   pub ended : Ended (n + 2 * t) (found .tried) (found .marks) (found .turns)
 
--- what its sums and its polynomial tell of a place
+-- what its sums and its polynomial tell of a place: the quotient against the sums, divided by the quotient's value
 abbrev pub told : (rows sums roots : List ℕ) → (p x : ℕ) → ℕ
-told rows sums roots p x = value (λ i. getD sums (in-row i p) 0) (polynomial rows roots p) x
+told rows sums roots p x =
+    times (against (quotient x (polynomial rows roots p)) (λ i. getD sums (in-row i p) 0) 0) (inverse (eval (quotient x (polynomial rows roots p)) x))
+
+-- of so many rows of numerators the first are in each plane the coefficients behind one against the sums, and the others are zeros
+pub record Numerators (done size : ℕ) (rows sums numerators : List ℕ) : Type 0 where
+  pub long : length numerators ≡ locator-rows
+  pub each :
+      (d p : ℕ) → d < done → p < row-width →
+      getD numerators (in-row d p) 0 ≡ against (drop (suc d) (lane p (size + 1) rows)) (λ i. getD sums (in-row i p) 0) 0
+  pub ahead : (i : ℕ) → row-width * done ≤ i → getD numerators i 0 ≡ 0
+
+-- the first rows are those of the coefficients of odd powers
+pub record Slopes (half : ℕ) (rows slopes : List ℕ) : Type 0 where
+  pub long : length slopes ≡ locator-rows
+  pub each : (k p : ℕ) → k < half → p < row-width → getD slopes (in-row k p) 0 ≡ getD rows (in-row (2 * k + 1) p) 0
+
+-- the same by two polynomials, the lower one of the place's square
+abbrev pub fraction : (numerators slopes : List ℕ) → (size p exponent : ℕ) → ℕ
+fraction numerators slopes size p e =
+    times (eval (lane p size numerators) (power 2 e)) (inverse (eval (lane p ((size + 1) / 2) slopes) (power 2 (e + e))))
+
+-- and by the first sum, where no polynomial has more than two coefficients
+abbrev pub first-told : (rows sums : List ℕ) → (p : ℕ) → ℕ
+first-told rows sums p = cond (eqb (getD rows (row-width + p) 0) 0) 0 (getD sums p 0)
 
 -- a mark gives way to the error at the place, and no mark to none
 unfoldable pub error-told : (mark error : ℕ) → ℕ
 error-told m e = cond (eqb m 0) 0 e
 
 -- so it is of the first planes at one place
-pub record Errors-put (planes x at : ℕ) (rows sums roots marks weighted : List ℕ) : Type 0 where
-  pub put : Written at planes (λ p. error-told (getD marks (at + p) 0) (told rows sums roots p x)) marks weighted
+abbrev pub Errors-put : (planes at : ℕ) → (error : ℕ → ℕ) → (marks weighted : List ℕ) → Type 0
+Errors-put planes at error marks weighted = Written at planes (λ p. error-told (getD marks (at + p) 0) (error p)) marks weighted
 
 -- and at the first places; every other byte is kept
-pub record Errors-told (done : ℕ) (s : Settings) (rows sums roots marks weighted : List ℕ) : Type 0 where
+pub record Errors-told (done : ℕ) (error : (j p : ℕ) → ℕ) (marks weighted : List ℕ) : Type 0 where
+  pub long : length weighted ≡ length marks
+  pub bytes : (i : ℕ) → getD weighted i 0 < 256
+  pub each : (j p : ℕ) → j < done → p < value-room → getD weighted (in-row j p) 0 ≡ error-told (getD marks (in-row j p) 0) (error j p)
+  pub ahead : (i : ℕ) → row-width * done ≤ i → getD weighted i 0 ≡ getD marks i 0
+  pub behind : (j p : ℕ) → value-room ≤ p → p < row-width → getD weighted (in-row j p) 0 ≡ getD marks (in-row j p) 0
+
+-- of the first planes none that looks for a root has found them all
+abbrev pub None-found : (planes : ℕ) → (roots left : List ℕ) → Type 0
+None-found planes roots left = (p : ℕ) → p < planes → getD left p 0 ≡ 0 → getD roots p 0 ≡ 0
+
+-- a plane that looks for no root has no mark
+abbrev pub Unsought : (roots marks : List ℕ) → Type 0
+Unsought roots marks = (j p : ℕ) → p < value-room → getD roots p 0 ≡ 0 → getD marks (in-row j p) 0 ≡ 0
+
+-- the errors of the planes that have found all their roots
+pub record Errors-found (done : ℕ) (error : (j p : ℕ) → ℕ) (left marks weighted : List ℕ) : Type 0 where
   pub long : length weighted ≡ length marks
   pub bytes : (i : ℕ) → getD weighted i 0 < 256
   pub each :
-      (j p : ℕ) → j < done → p < value-room →
-      getD weighted (in-row j p) 0 ≡ error-told (getD marks (in-row j p) 0) (told rows sums roots p (power 2 (place-exponent (s .n) (check-count s) j)))
+      (j p : ℕ) → j < done → p < value-room → getD left p 0 ≡ 0 → getD weighted (in-row j p) 0 ≡ error-told (getD marks (in-row j p) 0) (error j p)
   pub ahead : (i : ℕ) → row-width * done ≤ i → getD weighted i 0 ≡ getD marks i 0
   pub behind : (j p : ℕ) → value-room ≤ p → p < row-width → getD weighted (in-row j p) 0 ≡ getD marks (in-row j p) 0

@@ -1,4 +1,5 @@
 // The search of all planes for their wrong places: what is looked for in each, and the walk through the places in order.
+mod fractions;
 mod locators;
 mod places;
 mod weighted;
@@ -37,7 +38,7 @@ pub fn decode(
     ensures { λ r. ⌜ Decoded planes (settings n t planes) (now (difference .entry)) (r .left) (r .tried) (r .weighted) (r .turns) ⌝ }
 {
     let count = 2 * t;
-    let sums = sums::rows::syndromes(powers, logarithms, difference, count);
+    let sums = sums::rows::syndromes(difference, count);
     let sought = locators::seek_all(powers, logarithms, &sums, count, t, planes);
     let rows = sought.rows;
     let roots = sought.roots;
@@ -45,12 +46,13 @@ pub fn decode(
     let left = found.left;
     let tried = found.tried;
     let mut weighted = found.marks;
-    weighted::put_all_errors(
+    weighted::put_found_errors(
         powers,
         logarithms,
         &rows,
         &sums,
         roots,
+        left,
         n,
         t,
         found.turns,

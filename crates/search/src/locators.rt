@@ -1,91 +1,112 @@
 // What is looked for in each plane: the roots of its locator.
-ghost use mathlib.Core.List.{[], _∷_};
+ghost use mathlib.Core.Path.{_≡_};
 ghost use Prim.Native.Nat.{_*_, _≤_, _<_};
 ghost use lib.ListN.{length};
 ghost use Rattle.field.specs.Table.{Powers, Logarithms};
 ghost use Rattle.lanes.specs.Lanes.{row-width};
-ghost use Rattle.code.specs.Size.{most-bad, most-checks, value-room};
-ghost use Rattle.search.specs.Steps.{Looks, Short-locator, Seeks, Sought-all};
+ghost use Rattle.code.specs.Size.{most-bad, most-checks, value-room, locator-rows};
+ghost use Rattle.search.specs.Steps.{Short-put, Found-put, Short-all, Sought-all};
 use code::sizes::LOCATOR_ROWS;
 use code::sizes::PLANE_ROOM;
 use code::sizes::VALUE_ROOM;
+use field::long::long_logarithms;
+use field::long::long_powers;
 use lanes::ROW_WIDTH;
-use locator::berlekamp::locate;
-use locator::plane::plane_of;
+use locator::berlekamp::locate_all;
 use locator::plane::put_plane;
 use locator::single::is_geometric;
 
-// A polynomial and how many of its roots are looked for.
-pub struct Sought {
-    pub size: usize,
-    pub coefficients: [u8; PLANE_ROOM],
-}
-
-// The same of all planes: how many roots, and the coefficients in rows.
+// For each plane how many roots, and the coefficients in rows.
 pub struct SoughtAll {
     pub roots: [u8; VALUE_ROOM],
     pub rows: [u8; LOCATOR_ROWS],
 }
 
-// A polynomial without roots, and one root to find: such a search goes through all places and finds nothing.
-fn no_roots() -> Sought
-    ensures { λ r. ⌜ Looks r 1 (1 ∷ []) ⌝ }
-{
-    let mut coefficients = [0u8; PLANE_ROOM];
-    coefficients[0] = 1;
-    Sought {
-        size: 1,
-        coefficients,
-    }
-}
-
 // The locator of power sums in geometric progression: the ratio is its one root, and where the sums are 0 it has none.
-fn short_locator(first: u8, ratio: u8) -> Sought
-    ensures { λ r. ⌜ Short-locator first ratio r ⌝ }
+fn put_short(rows: &mut [u8], p: usize, first: u8, ratio: u8) -> u8
+    requires { ⌜ (p < row-width) × (length (now rows) ≡ locator-rows) ⌝ }
+    ensures { λ r. ⌜ Short-put p first ratio r (now (rows .entry)) (now (rows .exit)) ⌝ }
 {
-    let mut coefficients = [0u8; PLANE_ROOM];
     if first == 0 {
-        coefficients[0] = 1;
-        return Sought {
-            size: 0,
-            coefficients,
-        };
+        rows[p] = 1;
+        return 0;
     }
-    coefficients[0] = ratio;
-    coefficients[1] = 1;
-    Sought {
-        size: 1,
-        coefficients,
-    }
+    rows[p] = ratio;
+    rows[ROW_WIDTH + p] = 1;
+    1
 }
 
-// What is looked for in plane p. One error shows in the power sums, and its locator needs no steps; a locator longer than t is none.
-fn seek(
+// A locator that was worked out. One that is longer than t is none: a polynomial without roots stands for it, and one root to find, so that
+// the search goes through all places and finds nothing.
+fn put_found(rows: &mut [u8], p: usize, locator: &[u8], t: usize) -> u8
+    requires { ⌜ (p < row-width) × (length (now rows) ≡ locator-rows) × (1 ≤ length (now locator)) × (t ≤ most-bad) ⌝ }
+    ensures { λ r. ⌜ Found-put p t (now (locator .entry)) r (now (rows .entry)) (now (rows .exit)) ⌝ }
+{
+    if t + 1 < locator.len() {
+        rows[p] = 1;
+        return 1;
+    }
+    put_plane(rows, p, locator);
+    (locator.len() - 1) as u8
+}
+
+// Whether in each plane at most one place is wrong, which shows in the power sums: the locators then need no steps.
+fn seek_short(
     powers: &[u8; 255],
     logarithms: &[u8; 256],
     sums: &[u8],
-    p: usize,
+    count: usize,
+    planes: usize,
+    roots: &mut [u8],
+    rows: &mut [u8],
+) -> bool
+    requires { ⌜ Powers (now powers) × Logarithms (now logarithms) ⌝ }
+    requires { ⌜ (2 ≤ count) × (count ≤ most-checks) × (row-width * count ≤ length (now sums)) × (planes ≤ value-room) ⌝ }
+    requires { ⌜ (length (now roots) ≡ value-room) × (length (now rows) ≡ locator-rows) ⌝ }
+    ensures { λ r. ⌜ Short-all r planes count (now (sums .entry)) (now (roots .entry)) (now (rows .entry)) (now (roots .exit)) (now (rows .exit)) ⌝ }
+{
+    let mut p = 0;
+    while p < planes {
+        let first = sums[p];
+        let inverse = field::inverse_by(powers, logarithms, first);
+        let ratio = field::product_by(powers, logarithms, sums[ROW_WIDTH + p], inverse);
+        if !is_geometric(powers, logarithms, sums, p, ratio, count) {
+            return false;
+        }
+        roots[p] = put_short(rows, p, first, ratio);
+        p += 1;
+    }
+    true
+}
+
+// The locators of all planes worked out.
+fn seek_long(
+    powers: &[u8; 255],
+    logarithms: &[u8; 256],
+    sums: &[u8],
     count: usize,
     t: usize,
-) -> Sought
+    planes: usize,
+) -> SoughtAll
     requires { ⌜ Powers (now powers) × Logarithms (now logarithms) ⌝ }
-    requires { ⌜ (p < row-width) × (2 ≤ count) × (count ≤ most-checks) × (row-width * count ≤ length (now sums)) × (1 ≤ t) × (t ≤ most-bad) ⌝ }
-    ensures { λ r. ⌜ Seeks p count t (now (sums .entry)) r ⌝ }
+    requires { ⌜ (2 ≤ count) × (count ≤ most-checks) × (row-width * count ≤ length (now sums)) × (1 ≤ t) × (t ≤ most-bad) × (planes ≤ value-room) ⌝ }
+    ensures { λ r. ⌜ Sought-all planes count t (now (sums .entry)) (r .roots) (r .rows) ⌝ }
 {
-    let first = sums[p];
-    let inverse = field::inverse_by(powers, logarithms, first);
-    let ratio = field::product_by(powers, logarithms, sums[ROW_WIDTH + p], inverse);
-    if is_geometric(powers, logarithms, sums, p, ratio, count) {
-        return short_locator(first, ratio);
+    let longer = long_powers(powers);
+    let exponents = long_logarithms(logarithms);
+    let found = locate_all(&longer, &exponents, sums, count, planes);
+    let locators = found.locators;
+    let sizes = found.sizes;
+    let mut roots = [0u8; VALUE_ROOM];
+    let mut rows = [0u8; LOCATOR_ROWS];
+    let mut p = 0;
+    while p < planes {
+        let end = PLANE_ROOM * p + PLANE_ROOM;
+        let start = end - (sizes[p] + 1);
+        roots[p] = put_found(&mut rows, p, &locators[start..end], t);
+        p += 1;
     }
-    let plane = plane_of(sums, p, count);
-    let state = locate(powers, logarithms, &plane[..count], count);
-    let size = state.size;
-    if t < size {
-        return no_roots();
-    }
-    let coefficients = state.locator;
-    Sought { size, coefficients }
+    SoughtAll { roots, rows }
 }
 
 pub fn seek_all(
@@ -102,15 +123,16 @@ pub fn seek_all(
 {
     let mut roots = [0u8; VALUE_ROOM];
     let mut rows = [0u8; LOCATOR_ROWS];
-    let mut p = 0;
-    while p < planes {
-        let sought = seek(powers, logarithms, sums, p, count, t);
-        let size = sought.size;
-        let coefficients = sought.coefficients;
-        let end = size + 1;
-        put_plane(&mut rows, p, &coefficients[..end]);
-        roots[p] = size as u8;
-        p += 1;
+    if seek_short(
+        powers,
+        logarithms,
+        sums,
+        count,
+        planes,
+        &mut roots,
+        &mut rows,
+    ) {
+        return SoughtAll { roots, rows };
     }
-    SoughtAll { roots, rows }
+    seek_long(powers, logarithms, sums, count, t, planes)
 }

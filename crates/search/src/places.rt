@@ -34,7 +34,7 @@ pub struct Found {
 }
 
 // The largest number.
-fn longest(roots: [u8; VALUE_ROOM]) -> usize
+pub fn longest(roots: [u8; VALUE_ROOM]) -> usize
     requires { ⌜ length roots ≡ value-room ⌝ }
     ensures { λ r. ⌜ Longest roots r ⌝ }
 {
@@ -87,14 +87,14 @@ fn root_found(left: u8, here: u8) -> u8
     0
 }
 
-// The planes that find a root, by the values that stand from `at` on.
-fn find_roots(values: &[u8], at: usize, left: &mut [u8], marks: &mut [u8])
-    requires { ⌜ (length (now left) ≡ value-room) × (at + value-room ≤ length (now values)) × (at + value-room ≤ length (now marks)) ⌝ }
+// The planes that find a root, by a row of values, are marked from `at` on.
+fn find_roots(values: &[u8], left: &mut [u8], marks: &mut [u8], at: usize)
+    requires { ⌜ (length (now left) ≡ value-room) × (value-room ≤ length (now values)) × (at + value-room ≤ length (now marks)) ⌝ }
     ensures { λ _. ⌜ Roots-found value-room at (now (values .entry)) (now (left .entry)) (now (left .exit)) (now (marks .entry)) (now (marks .exit)) ⌝ }
 {
     let mut p = 0;
     while p < VALUE_ROOM {
-        let found = root_found(left[p], values[at + p]);
+        let found = root_found(left[p], values[p]);
         marks[at + p] = found;
         left[p] = left[p] - found;
         p += 1;
@@ -111,8 +111,7 @@ fn end_of(left: &[u8], j: usize, places: usize) -> usize
     places
 }
 
-// The places tried one after the other. Each has a row of its own for its values, which the compiler then adds up as a whole; one row
-// for all places it would take apart into bytes.
+// The places tried one after the other.
 fn try_places(
     powers: &[u8; 255],
     tables: &[u8],
@@ -128,7 +127,7 @@ fn try_places(
     ensures { λ r. ⌜ Walked-through n t (now (rows .entry)) roots r ⌝ }
 {
     let places = n + 2 * t;
-    let mut values = [0u8; PLACE_ROWS];
+    let mut values = [0u8; ROW_WIDTH];
     let mut left = roots;
     let mut tried = [0u8; VALUE_ROOM];
     let mut marks = [0u8; PLACE_ROWS];
@@ -137,9 +136,9 @@ fn try_places(
     while j < end {
         let exponent = place_exponent(n, 2 * t, j);
         let at = ROW_WIDTH * j;
-        put_values(powers, tables, rows, many, exponent, &mut values, at);
+        put_values(powers, tables, rows, many, exponent, &mut values, 0);
         count_place(&left, &mut tried);
-        find_roots(&values, at, &mut left, &mut marks);
+        find_roots(&values, &mut left, &mut marks, at);
         j += 1;
         end = end_of(&left, j, places);
     }

@@ -7,7 +7,8 @@ use Rattle.code.specs.Size.{most-columns, value-room}
 use Rattle.code.specs.Settings.{settings, check-count}
 use Rattle.code.proofs.ValidSettings.{bounds}
 use Rattle.search.proofs.Seeking.{fits}
-use Rattle.search.proofs.Decoding.{walked-as, told-as, decoded}
+use Rattle.search.proofs.Told.{unsought}
+use Rattle.search.proofs.Decoding.{walked-as, decoded}
 use Rattle.search.proofs.decode.Statement.{statement}
 use Rattle.search.proofs.decode.Tie as tie
 
@@ -19,7 +20,7 @@ mul-count : tie.Need-mul-count
 mul-count c = let z = few (c .before) in omega arith
 
 syndromes-requires : tie.Need-syndromes-requires
-syndromes-requires c κs = let z = few (c .before) in (c .before .pre .0 .0, c .before .pre .0 .1, omega arith, omega arith)
+syndromes-requires c κs = let z = few (c .before) in (omega arith, omega arith)
 
 slice-aggregate-seek-all : tie.Need-slice-aggregate-seek-all
 slice-aggregate-seek-all c = sym (c .before .syndromes .ensures .long)
@@ -51,31 +52,31 @@ walk-requires c κs =
     let z = few s in
     ((s .pre .0 .0, z .0, omega arith, sought .seek-all .ensures .long), fits _ _ _ _ _ _ (sought .seek-all .ensures))
 
-slice-aggregate-put-all-errors : tie.Need-slice-aggregate-put-all-errors
-slice-aggregate-put-all-errors c = sym (sought-of (c .before .before .before .before) .seek-all .ensures .long)
+slice-aggregate-put-found-errors : tie.Need-slice-aggregate-put-found-errors
+slice-aggregate-put-found-errors c = sym (sought-of (c .before .before .before .before) .seek-all .ensures .long)
 
-slice-aggregate-put-all-errors-2 : tie.Need-slice-aggregate-put-all-errors-2
-slice-aggregate-put-all-errors-2 c = sym (summed-of (sought-of (c .before .before .before .before .before)) .syndromes .ensures .long)
+slice-aggregate-put-found-errors-2 : tie.Need-slice-aggregate-put-found-errors-2
+slice-aggregate-put-found-errors-2 c = sym (summed-of (sought-of (c .before .before .before .before .before)) .syndromes .ensures .long)
 
 -- from where the marks are lent to the walk
 abbrev walked-of : tie.After-weighted2 → tie.After-walk
 walked-of c = c .before .before .before .before .before .before
 
-slice-aggregate-put-all-errors-3 : tie.Need-slice-aggregate-put-all-errors-3
-slice-aggregate-put-all-errors-3 c = sym (walked-of c .walk .ensures .walked .long)
+slice-aggregate-put-found-errors-3 : tie.Need-slice-aggregate-put-found-errors-3
+slice-aggregate-put-found-errors-3 c = sym (walked-of c .walk .ensures .walked .long)
 
-put-all-errors-requires : tie.Need-put-all-errors-requires
-put-all-errors-requires c κs =
+put-found-errors-requires : tie.Need-put-found-errors-requires
+put-found-errors-requires c κs =
     let walked = walked-of c in
     let sought = sought-of walked in
     let summed = summed-of sought in
     let s = start summed in
     let z = few s in
-    let fit = fits _ _ _ _ _ _ (sought .seek-all .ensures) in (
-      (s .pre .0 .0, s .pre .0 .1, walked .walk .ensures .walked .long),
+    let walk = walked .walk .ensures in (
+      (s .pre .0 .0, s .pre .0 .1, walk .walked .long),
       (
-        (z .0, omega arith, walked .walk .ensures .ended .within, sought .seek-all .ensures .long, summed .syndromes .ensures .long),
-        (s .pre .1 .1, fit .many, fit .small),
+        (z .0, omega arith, walk .ended .within, sought .seek-all .ensures .long, summed .syndromes .ensures .long),
+        (fits _ _ _ _ _ _ (sought .seek-all .ensures), walk .walked .left-long, unsought _ _ _ _ _ _ _ (walk .walked)),
       ),
     )
 
@@ -91,7 +92,7 @@ returns c =
     let group = settings (a .n) (a .t) (a .planes) in
     let walk = walked .walk .ensures in
     decoded (a .planes) _ group (a .difference .now) _ _ _ _ _ _ _ (s .pre .1 .0) (λ i. summed .before .shared-slice-known .given i .fits) (few s .2) (s .pre .1 .1)
-    (summed .syndromes .ensures) (sought .seek-all .ensures) (walked-as group _ _ _ _ _ _ (walk .walked)) (walk .ended) (told-as group _ _ _ _ _ _ (put .put-all-errors .ensures))
+    (summed .syndromes .ensures) (sought .seek-all .ensures) (walked-as group _ _ _ _ _ _ (walk .walked)) (walk .ended) (put .put-found-errors .ensures)
 
 pub decode-spec : {M : Type 1} → statement M
 decode-spec =
@@ -103,8 +104,8 @@ decode-spec =
     seek-all-requires
     slice-aggregate-walk
     walk-requires
-    slice-aggregate-put-all-errors
-    slice-aggregate-put-all-errors-2
-    slice-aggregate-put-all-errors-3
-    put-all-errors-requires
+    slice-aggregate-put-found-errors
+    slice-aggregate-put-found-errors-2
+    slice-aggregate-put-found-errors-3
+    put-found-errors-requires
     returns)

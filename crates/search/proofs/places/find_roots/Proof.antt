@@ -8,10 +8,10 @@ use Rattle.search.proofs.places.find_roots.Statement.{statement}
 use Rattle.search.proofs.places.find_roots.Tie as tie
 
 abbrev Inv-loop : tie.InvT-loop
-Inv-loop values at left₀ marks₀ p₀ left marks p = (p ≤ value-room) × Roots-found p at values left₀ left marks₀ marks
+Inv-loop values left₀ marks₀ at p₀ left marks p = (p ≤ value-room) × Roots-found p at values left₀ left marks₀ marks
 
 abbrev μ-loop : tie.MeasureT-loop
-μ-loop values at left₀ marks₀ p₀ left marks p = value-room - p
+μ-loop values left₀ marks₀ at p₀ left marks p = value-room - p
 
 loop-holds : tie.Need-loop-holds Inv-loop μ-loop
 loop-holds c = (omega arith, roots-none _ _ _ _)
@@ -56,7 +56,6 @@ find-roots-spec =
     μ-loop
     loop-holds
     slice-read-root-found
-    (λ c. omega arith)
     (λ c. omega arith)
     (λ c κs. tt)
     (λ c. omega arith)

@@ -7,10 +7,11 @@ use native.Mathlib.Omega.{arith}
 use lib.ListN.{length}
 use borrow.Author.Needs.{needs}
 use Rattle.arrays.specs.Array.{all-zero}
+use Rattle.arrays.proofs.Written.{written-filled}
 use Rattle.field.specs.Field.{power}
 use Rattle.field.proofs.Power.{power-lt}
-use Rattle.lanes.specs.Lanes.{lane}
-use Rattle.code.specs.Size.{value-room, place-rows}
+use Rattle.lanes.specs.Lanes.{row-width, lane}
+use Rattle.code.specs.Size.{value-room}
 use Rattle.code.specs.Settings.{settings, check-count}
 use Rattle.code.specs.Polynomial.{eval}
 use Rattle.locator.specs.Errors.{place-exponent}
@@ -23,7 +24,7 @@ use Rattle.search.proofs.places.try_places.Tie as tie
 
 abbrev Inv-loop : tie.InvT-loop
 Inv-loop powers tables many rows n t places values₀ roots tried₀ marks₀ j₀ end₀ values left tried marks j end =
-    (j ≤ n + 2 * t) × (end ≡ cond (all-zero left) j (n + 2 * t)) × (length values ≡ place-rows)
+    (j ≤ n + 2 * t) × (end ≡ cond (all-zero left) j (n + 2 * t)) × (length values ≡ row-width)
     × Walked j (settings n t value-room) rows roots left tried marks × Longest tried j
 
 abbrev μ-loop : tie.MeasureT-loop
@@ -74,7 +75,7 @@ put-values-requires c κs =
     let s = start l in
     let many = s .pre .1 .0 in (
       (s .pre .0 .0, many .2),
-      (found .place-exponent .ensures .0, many .0, many .1, omega (arith, many, s .pre .0), omega (arith, s .pre .0, inside i, l .loop .inv .2)),
+      (found .place-exponent .ensures .0, many .0, many .1, omega (arith, many, s .pre .0), omega (arith, l .loop .inv .2)),
     )
 
 -- what was known before the values were put
@@ -113,7 +114,7 @@ find-roots-requires c κs =
     let l = i .before in
     let w = l .loop .inv .3 in
     let bounds = start l .pre .0 in
-    (w .left-long, omega (arith, bounds, inside i, put .put-values .ensures .long, l .loop .inv .2), omega (arith, bounds, inside i, w .long))
+    (w .left-long, omega (arith, put .put-values .ensures .long, l .loop .inv .2), omega (arith, bounds, inside i, w .long))
 
 -- what was known before a turn's roots were found
 abbrev counted-of : tie.After-find-roots Inv-loop μ-loop → tie.After-count-place Inv-loop μ-loop
@@ -147,7 +148,7 @@ loop-again c =
     let l = i .before in
     let e = put .before .before .place-exponent in
     let w =
-    walked-more _ _ _ _ _ _ _ _ _ _ _ (λ p h. here l (e .result) _ p (e .ensures .1) h (put .put-values .ensures .new p (omega arith))) (l .loop .inv .3)
+    walked-more _ _ _ _ _ _ _ _ _ _ _ (λ p h. here l (e .result) _ p (e .ensures .1) h (written-filled (put .put-values .ensures) .new p (omega arith))) (l .loop .inv .3)
     (counted-of found .count-place .ensures) (found .find-roots .ensures) in
     (omega (arith, inside i), c .end-of2 .ensures, put .put-values .ensures .long ∙ l .loop .inv .2, w, ended-more _ _ _ _ _ _ _ _ _ _ (inside i .0) (l .loop .inv .3) w)
 

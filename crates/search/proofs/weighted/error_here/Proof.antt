@@ -12,7 +12,7 @@ returns c = rw (eq-eqb _ _ (c .if1 .taken)) refl
 
 returns-2 : tie.Need-returns-2
 unfolding error-told
-returns-2 c = rw (ne-eqb _ _ (c .before .if1 .left)) (c .error-at .ensures)
+returns-2 c = rw (ne-eqb _ _ (c .if1 .left)) (c .before .divided .ensures)
 
 pub error-here-spec : {M : Type 1} → statement M
-error-here-spec = tie.close (tie.spec returns (λ c κs. search needs) returns-2)
+error-here-spec = tie.close (tie.spec (λ c κs. search needs) returns returns-2)

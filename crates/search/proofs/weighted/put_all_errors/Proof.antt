@@ -1,86 +1,182 @@
--- `put_all_errors` meets its contract: place after place. Assumes nothing.
-use mathlib.Core.Path.{_≡_, _∙_, ap}
-use Prim.Native.Nat.{ℕ, _*_, _-_, _≤_, _<_}
+-- `put_all_errors` meets its contract: by the first sums where no plane looks for more than one root, and else by both polynomials and their
+-- tables. Assumes nothing.
+use mathlib.Core.Path.{refl, sym}
+use Prim.Native.Nat.{ℕ, _*_, _≤_, _<_}
 use native.Mathlib.Omega.{arith}
 use lib.ListN.{getD}
 use Rattle.field.specs.Field.{power}
-use Rattle.field.proofs.Table.{powers-at}
-use Rattle.code.specs.Size.{value-room}
-use Rattle.code.specs.Settings.{settings, check-count}
+use Rattle.field.proofs.Power.{power-lt}
 use Rattle.locator.specs.Errors.{place-exponent}
-use Rattle.search.specs.Steps.{Errors-told}
-use Rattle.search.proofs.Told.{told-none, told-more, told-whole}
+use Rattle.search.specs.Steps.{told}
+use Rattle.search.proofs.Told.{told-whole}
+use Rattle.search.proofs.Quotients.{fraction-told, first-told-so}
 use Rattle.search.proofs.weighted.put_all_errors.Statement.{statement}
 use Rattle.search.proofs.weighted.put_all_errors.Tie as tie
 
-abbrev Inv-loop : tie.InvT-loop
-Inv-loop powers logarithms rows sums roots n t turns weighted₀ j₀ weighted j =
-    (j ≤ turns) × Errors-told j (settings n t value-room) rows sums roots weighted₀ weighted
+-- what was known when the longest was found
+module _ (c : tie.After-longest) where
+  abbrev start : tie.Start
+  start = c .before .before .before .before
 
-abbrev μ-loop : tie.MeasureT-loop
-μ-loop powers logarithms rows sums roots n t turns weighted₀ j₀ weighted j = turns - j
+  abbrev size : ℕ
+  size = c .longest .result
 
-abbrev start : tie.At-loop Inv-loop μ-loop → tie.Start Inv-loop μ-loop
-start l = l .before .before .before .before
+  few : size ≤ start .args .t
+  few = c .longest .ensures .least (start .args .t) (start .pre .1 .1 .small)
 
-loop-holds : tie.Need-loop-holds Inv-loop μ-loop
-loop-holds c = (omega arith, told-none _ _ _ _ _ (λ i. c .slice-known .given i .fits))
+  row-byte : (i : ℕ) → getD (start .args .rows .now) i 0 < 256
+  row-byte i = c .before .before .before .shared-slice-known .given i .fits
 
-mul-place-exponent : tie.Need-mul-place-exponent Inv-loop μ-loop
-mul-place-exponent c = omega (arith, start (c .before) .pre .1 .0)
+  sum-byte : (i : ℕ) → getD (start .args .sums .now) i 0 < 256
+  sum-byte i = c .before .before .shared-slice-known2 .given i .fits
 
-place-exponent-requires : tie.Need-place-exponent-requires Inv-loop μ-loop
-place-exponent-requires c κs = let bounds = start (c .before) .pre .1 .0 in (bounds .0, omega (arith, bounds), omega (arith, bounds))
+  abbrev error : (j p : ℕ) → ℕ
+  error j p =
+      told (start .args .rows .now) (start .args .sums .now) (start .args .roots) p (power 2 (place-exponent (start .args .n) (2 * start .args .t) j))
 
-mul-at : tie.Need-mul-at Inv-loop μ-loop
-mul-at c = omega (arith, start (c .before .before .before) .pre .1 .0)
+longest-requires : tie.Need-longest-requires
+longest-requires c κs = c .before .before .before .pre .1 .1 .many
 
-put-errors-requires : tie.Need-put-errors-requires Inv-loop μ-loop
-put-errors-requires c κs =
-    let l = c .before .before .before .before in
+put-all-first-requires : tie.Need-put-all-first-requires
+put-all-first-requires c κs =
+    let s = start (c .before .before) in
+    let bounds = s .pre .1 .0 in
+    (omega (arith, bounds), omega (arith, bounds), omega (arith, bounds, s .pre .0), s .pre .0 .2)
+
+same-length : tie.Need-same-length
+same-length c = c .before .before .put-all-first .ensures .long
+
+returns : tie.Need-returns
+returns c =
+    let put = c .before .before in
+    let test = put .before .before in
+    let l = test .before in
+    let s = start l in
+    let a = s .args in
+    told-whole _ _ _ (error l) _ _ refl
+    (λ j p h.
+    first-told-so (size l) (a .t) (a .rows .now) (a .sums .now) (a .roots) (s .pre .1 .1) (l .longest .ensures) (row-byte l) (sum-byte l) p h (test .if1 .taken)
+    (power 2 (place-exponent (a .n) (2 * a .t) j)) (power-lt 2 _))
+    (put .put-all-first .ensures)
+
+add-half : tie.Need-add-half
+add-half c = let l = c .before in omega (arith, few l, start l .pre .1 .0)
+
+numerators-requires : tie.Need-numerators-requires
+numerators-requires c κs =
+    let l = c .before in
     let s = start l in
     let bounds = s .pre .1 .0 in
-    let few = s .pre .1 .1 in
-    ((s .pre .0 .0, s .pre .0 .1), ((few .1, omega (arith, bounds, s .pre .0, l .loop .inv .1 .long)), λ p. (omega (arith, bounds, few, few .2 p), omega (arith, bounds, few, few .2 p))))
+    ((s .pre .0 .0, s .pre .0 .1, omega (arith, few l, bounds)), (bounds .3, omega (arith, few l, bounds)))
 
-add-j : tie.Need-add-j Inv-loop μ-loop
-add-j c = omega arith
+slopes-requires : tie.Need-slopes-requires
+slopes-requires c κs =
+    let l = c .before .before in let bounds = start l .pre .1 .0 in (omega (arith, few l, bounds), bounds .3)
 
--- the place of a turn
-place :
-    (l : tie.At-loop Inv-loop μ-loop) (e : ℕ) → e < 255 → e ≡ place-exponent (start l .args .n) (2 * start l .args .t) (l .loop .j) →
-    let a = start l .args in
-    let s = settings (a .n) (a .t) value-room in getD (a .powers .now) e 0 ≡ power 2 (place-exponent (s .n) (check-count s) (l .loop .j))
-unfolding settings check-count
-place l e h q = powers-at _ (start l .pre .0 .0) e h ∙ ap (power 2) q
+-- what was known where both polynomials stand
+abbrev looked : tie.After-slopes → tie.After-longest
+looked c = c .before .before .before
 
-loop-again : tie.Need-loop-again Inv-loop μ-loop
-loop-again c =
+slice-aggregate-put-all-tables : tie.Need-slice-aggregate-put-all-tables
+slice-aggregate-put-all-tables c = sym (c .before .before .numerators .ensures .long)
+
+put-all-tables-requires : tie.Need-put-all-tables-requires
+put-all-tables-requires c κs =
+    let p = c .before .before in
+    let l = looked p in
+    let bounds = start l .pre .1 .0 in (
+      omega (arith, p .before .before .if1 .left),
+      omega (arith, few l, bounds),
+      omega (arith, few l, bounds, p .before .numerators .ensures .long),
+      omega (arith, few l, bounds),
+    )
+
+-- and where the upper tables stand
+abbrev both : tie.After-put-all-tables → tie.After-slopes
+both c = c .before .before .before
+
+slice-aggregate-put-all-tables-3 : tie.Need-slice-aggregate-put-all-tables-3
+slice-aggregate-put-all-tables-3 c = sym (both (c .before .before) .slopes .ensures .long)
+
+put-all-tables-requires-2 : tie.Need-put-all-tables-requires-2
+put-all-tables-requires-2 c κs =
+    let p = both (c .before .before .before) in
+    let l = looked p in
+    let bounds = start l .pre .1 .0 in (
+      omega (arith, p .before .before .if1 .left),
+      omega (arith, few l, bounds),
+      omega (arith, few l, bounds, p .slopes .ensures .long),
+      omega (arith, few l, bounds),
+    )
+
+-- and where all tables stand
+abbrev upper-put : tie.After-put-all-tables2 → tie.After-put-all-tables
+upper-put c = c .before .before .before .before
+
+slice-aggregate-put-fractions : tie.Need-slice-aggregate-put-fractions
+slice-aggregate-put-fractions c = sym (both (upper-put (c .before .before)) .before .numerators .ensures .long)
+
+slice-aggregate-put-fractions-2 : tie.Need-slice-aggregate-put-fractions-2
+slice-aggregate-put-fractions-2 c = sym (upper-put (c .before .before .before) .put-all-tables .ensures .0)
+
+slice-aggregate-put-fractions-3 : tie.Need-slice-aggregate-put-fractions-3
+slice-aggregate-put-fractions-3 c = sym (both (upper-put (c .before .before .before .before)) .slopes .ensures .long)
+
+slice-aggregate-put-fractions-4 : tie.Need-slice-aggregate-put-fractions-4
+slice-aggregate-put-fractions-4 c = sym (c .before .before .before .before .before .put-all-tables2 .ensures .0)
+
+put-fractions-requires : tie.Need-put-fractions-requires
+put-fractions-requires c κs =
+    let lower = c .before .before .before .before .before .before in
+    let upper = upper-put lower in
+    let p = both upper in
+    let l = looked p in
+    let s = start l in
+    let bounds = s .pre .1 .0 in (
+      (s .pre .0 .0, s .pre .0 .1, omega (arith, p .before .before .if1 .left), omega (arith, few l, bounds)),
+      (
+        (p .before .numerators .ensures .long, upper .put-all-tables .ensures .1),
+        ((p .slopes .ensures .long, lower .put-all-tables2 .ensures .1), (bounds .0, bounds .1, bounds .2, s .pre .0 .2)),
+      ),
+    )
+
+same-length-2 : tie.Need-same-length-2
+same-length-2 c = c .before .before .put-fractions .ensures .long
+
+returns-2 : tie.Need-returns-2
+returns-2 c =
     let put = c .before .before in
-    let found = put .before .before .before in
-    let l = found .before .before in
-    (omega arith, told-more _ _ _ _ _ _ _ _ _ (place l (found .place-exponent .result) (found .place-exponent .ensures .0) (found .place-exponent .ensures .1)) (l .loop .inv .1) (put .put-errors .ensures))
-
-same-length : tie.Need-same-length Inv-loop μ-loop
-same-length c = c .before .loop .inv .1 .long
-
-returns : tie.Need-returns Inv-loop μ-loop
-returns c = told-whole _ _ _ _ _ _ _ _ (omega arith) (c .before .loop .inv .1)
+    let p = both (upper-put (put .before .before .before .before .before .before .before)) in
+    let l = looked p in
+    let s = start l in
+    let a = s .args in
+    told-whole _ _ _ (error l) _ _ refl
+    (λ j q h.
+    fraction-told (size l) (a .t) (a .rows .now) (a .sums .now) (a .roots) (s .pre .1 .1) (l .longest .ensures) (row-byte l) (sum-byte l) q h _ _
+    (p .before .numerators .ensures) (p .slopes .ensures) (place-exponent (a .n) (2 * a .t) j))
+    (put .put-fractions .ensures)
 
 pub put-all-errors-spec : {M : Type 1} → statement M
 put-all-errors-spec =
     tie.close
     (tie.spec
-    Inv-loop
-    μ-loop
-    loop-holds
-    mul-place-exponent
-    place-exponent-requires
-    (λ c. c .place-exponent .ensures .0)
-    mul-at
-    put-errors-requires
-    add-j
-    (λ c. omega arith)
-    loop-again
+    longest-requires
+    put-all-first-requires
     same-length
-    returns)
+    returns
+    add-half
+    numerators-requires
+    slopes-requires
+    slice-aggregate-put-all-tables
+    (λ c. refl)
+    put-all-tables-requires
+    slice-aggregate-put-all-tables-3
+    (λ c. refl)
+    put-all-tables-requires-2
+    slice-aggregate-put-fractions
+    slice-aggregate-put-fractions-2
+    slice-aggregate-put-fractions-3
+    slice-aggregate-put-fractions-4
+    put-fractions-requires
+    same-length-2
+    returns-2)

@@ -1,68 +1,81 @@
--- `put_errors` meets its contract: nothing where no plane has a mark, else plane after plane. Assumes nothing.
-use mathlib.Core.Path.{sym, _∙_}
-use Prim.Native.Nat.{_+_, _-_, _≤_}
+-- `put_errors` meets its contract: nothing where no plane has a mark, else the values of both polynomials and their quotients. Assumes
+-- nothing.
+use mathlib.Core.Path.{refl, sym, _∙_}
+use Prim.Native.Nat.{_+_, _-_}
 use native.Mathlib.Omega.{arith}
 use borrow.Author.Needs.{needs}
 use Rattle.code.specs.Size.{value-room}
-use Rattle.search.specs.Steps.{Errors-put}
-use Rattle.search.proofs.Told.{unmarked, put-none, put-more, put-whole}
+use Rattle.search.proofs.Told.{unmarked}
+use Rattle.search.proofs.Quotients.{fraction-put}
 use Rattle.search.proofs.weighted.put_errors.Statement.{statement}
 use Rattle.search.proofs.weighted.put_errors.Tie as tie
 
-abbrev Inv-loop : tie.InvT-loop
-Inv-loop powers logarithms rows sums x weighted₀ at roots end p₀ weighted p = (p ≤ value-room) × Errors-put p x at rows sums roots weighted₀ weighted
+-- the ways back to the start, from the test and from each of both values
+abbrev start : tie.After-is-zero → tie.Start
+start c = c .before .before .before .before .before .before .before .before
 
-abbrev μ-loop : tie.MeasureT-loop
-μ-loop powers logarithms rows sums x weighted₀ at roots end p₀ weighted p = value-room - p
+abbrev tested : tie.After-step-on → tie.After-is-zero
+tested c = c .before .before
 
--- the ways back: from a turn to the test for marks, from there to the start
-abbrev tested : tie.At-loop Inv-loop μ-loop → tie.After-is-zero Inv-loop μ-loop
-tested l = l .before .before
+abbrev stepped : tie.After-put-values → tie.After-step-on
+stepped c = c .before .before
 
-abbrev start : tie.After-is-zero Inv-loop μ-loop → tie.Start Inv-loop μ-loop
-start c = c .before .before .before .before .before .before
+abbrev upper-put : tie.After-put-values2 → tie.After-put-values
+upper-put c = c .before .before .before
 
-returns : tie.Need-returns Inv-loop μ-loop
+returns : tie.Need-returns
 returns c =
     let z = c .before in
     let at = start z .args .at in
-    unmarked value-room (at + value-room - at) _ _ _ _ _ _ (omega arith) (sym (z .is-zero .ensures) ∙ c .if1 .taken)
+    unmarked value-room (at + value-room - at) _ _ _ (omega arith) (sym (z .is-zero .ensures) ∙ c .if1 .taken)
 
-loop-holds : tie.Need-loop-holds Inv-loop μ-loop
-loop-holds c = (omega arith, put-none _ _ _ _ _ _)
+step-on-requires : tie.Need-step-on-requires
+step-on-requires c κs = let s = start (c .before) in (s .pre .0 .4, omega (arith, s .pre .0))
 
-add-many : tie.Need-add-many Inv-loop μ-loop
-add-many c = let l = c .before in omega (arith, start (tested l) .pre .1 .1 (l .loop .p))
+put-values-requires : tie.Need-put-values-requires
+put-values-requires c κs =
+    let s = start (tested (c .before)) in
+    let bounds = s .pre .0 in
+    let above = s .pre .1 .0 in
+    ((bounds .0, above .1), (bounds .4, bounds .2, omega (arith, bounds), omega (arith, bounds, above .0), omega arith))
 
-slice-read-mark : tie.Need-slice-read-mark Inv-loop μ-loop
-slice-read-mark c = omega (arith, c .before .before .loop .inv .1 .put .long)
+put-values-requires-2 : tie.Need-put-values-requires-2
+put-values-requires-2 c κs =
+    let step = stepped (c .before .before) in
+    let s = start (tested step) in
+    let bounds = s .pre .0 in
+    let below = s .pre .1 .1 .0 in
+    ((bounds .0, below .1), (step .step-on .ensures .0, omega (arith, bounds), omega (arith, bounds), omega (arith, bounds, below .0), omega arith))
 
-error-here-requires : tie.Need-error-here-requires Inv-loop μ-loop
-error-here-requires c κs =
-    let l = c .before .before in
-    let s = start (tested l) in
-    let fit = s .pre .1 .1 (l .loop .p) in
-    (s .pre .0, (omega arith, fit .0, fit .1))
+slice-aggregate-put-quotients : tie.Need-slice-aggregate-put-quotients
+slice-aggregate-put-quotients c = sym (upper-put (c .before .before) .put-values .ensures .long)
 
-slice-write-weighted : tie.Need-slice-write-weighted Inv-loop μ-loop
-slice-write-weighted c = omega (arith, c .before .before .before .loop .inv .1 .put .long)
+slice-aggregate-put-quotients-2 : tie.Need-slice-aggregate-put-quotients-2
+slice-aggregate-put-quotients-2 c = sym (c .before .before .before .put-values2 .ensures .long)
 
-loop-again : tie.Need-loop-again Inv-loop μ-loop
-loop-again c =
-    let l = c .before .before .before in (omega arith, put-more _ _ _ _ _ _ _ _ _ (l .loop .inv .1) (omega arith) (c .error-here .ensures))
+put-quotients-requires : tie.Need-put-quotients-requires
+put-quotients-requires c κs =
+    let lower-put = c .before .before .before .before in
+    let s = start (tested (stepped (upper-put lower-put))) in
+    ((s .pre .0 .0, s .pre .0 .1), (upper-put lower-put .put-values .ensures .long, lower-put .put-values2 .ensures .long, s .pre .1 .1 .1))
 
-same-length-2 : tie.Need-same-length-2 Inv-loop μ-loop
-same-length-2 c = c .before .loop .inv .1 .put .long
+same-length-2 : tie.Need-same-length-2
+same-length-2 c = c .before .before .put-quotients .ensures .long
 
-returns-2 : tie.Need-returns-2 Inv-loop μ-loop
-returns-2 c = put-whole _ _ _ _ _ _ _ _ _ (omega arith) (c .before .loop .inv .1)
+returns-2 : tie.Need-returns-2
+returns-2 c =
+    let put = c .before .before in
+    let lower-put = put .before .before .before .before .before in
+    let above = upper-put lower-put in
+    let step = stepped above in
+    let a = start (tested step) .args in
+    fraction-put (a .size) (a .exponent) _ (a .at) (a .numerators .now) (a .slopes .now) _ _ _ _ _ _ (step .step-on .ensures .1) (above .put-values .ensures)
+    (lower-put .put-values2 .ensures) (put .put-quotients .ensures)
 
 pub put-errors-spec : {M : Type 1} → statement M
 put-errors-spec =
     tie.close
     (tie.spec
-    Inv-loop
-    μ-loop
     (λ c. omega arith)
     (λ c. omega arith)
     (λ c. omega arith)
@@ -70,17 +83,14 @@ put-errors-spec =
     (λ c κs. search needs)
     (λ c. search needs)
     returns
-    loop-holds
+    step-on-requires
+    (λ c. refl)
+    put-values-requires
     (λ c. omega arith)
-    (λ c. search needs)
-    add-many
-    (λ c. omega arith)
-    slice-read-mark
-    error-here-requires
-    (λ c. omega arith)
-    slice-write-weighted
-    (λ c. omega arith)
-    (λ c. omega arith)
-    loop-again
+    (λ c. refl)
+    put-values-requires-2
+    slice-aggregate-put-quotients
+    slice-aggregate-put-quotients-2
+    put-quotients-requires
     same-length-2
     returns-2)
