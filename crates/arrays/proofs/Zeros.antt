@@ -36,8 +36,8 @@ some-not-zero (x ∷ xs) e = go (eqb x 0) refl (λ f. some-not-zero xs (ap (λ (
     go false f rest = (0, omega arith, eqb-false x 0 f)
     go true f rest = let (i, inside, other) = rest refl in (suc i, omega arith, other)
 
--- the `or` of the first bytes
-or-zero : (a b : ℕ) → eqb (bitOr a b) 0 ≡ (eqb a 0 && eqb b 0)
+-- the `or` of two bytes, and of the first bytes
+pub or-zero : (a b : ℕ) → eqb (bitOr a b) 0 ≡ (eqb a 0 && eqb b 0)
 or-zero a b = go (eqb a 0) refl
   where
     go : (t : Bool) → eqb a 0 ≡ t → eqb (bitOr a b) 0 ≡ (t && eqb b 0)

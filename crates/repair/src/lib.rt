@@ -1,4 +1,5 @@
 // Repair of a vector by check values: in each byte plane the one codeword within t places, or none.
+pub mod again;
 mod changed;
 mod columns;
 
@@ -84,7 +85,7 @@ pub fn repair_by(
 }
 
 // An answer for which no place is tried, and so none changed.
-fn untried(answer: u32) -> RepairAnswer
+pub fn untried(answer: u32) -> RepairAnswer
     ensures { λ r. ⌜ (r .answer ≡ answer) × (r .changed ≡ 0) × (r .tried ≡ none-tried) ⌝ }
 {
     RepairAnswer {
