@@ -1,4 +1,4 @@
--- Tests of values byte by byte. What is left of a value from a byte on is that byte and what is left after it, so that a test of
+-- The order of values byte by byte. What is left of a value from a byte on is that byte and what is left after it, so that the test of
 -- what is left is decided by the byte or is the test of what is left after it. Assumes nothing.
 use mathlib.Core.Path.{_≡_, refl, sym, _∙_, ap, ap₂}
 use mathlib.Core.Bool.{true, false}
@@ -9,7 +9,6 @@ use native.Mathlib.Numerals.{add-one}
 use lib.ListN.{length, getD, take, drop}
 use lib.Seq.{drop-cons, drop-length, getD-take, length-take-le}
 use borrow.Author.Tests.{eq-eqb, ne-eqb, lt-ltb, le-ltb}
-use Rattle.code.specs.Vector.{same}
 use Rattle.grading.specs.Value.{bytes-before}
 
 -- what is left of a value of w bytes in front of an array, from byte p on
@@ -26,20 +25,6 @@ module _ (w : ℕ) (v : List ℕ) (fits : w ≤ length v) where
   left-none p e = ap (λ (k : ℕ). drop k (take w v)) (e ∙ sym (length-take-le w v fits)) ∙ drop-length (take w v)
 
 module _ (w : ℕ) (a b : List ℕ) (a-fits : w ≤ length a) (b-fits : w ≤ length b) where
-  -- the same
-  pub same-on : (p : ℕ) → p < w → getD a p 0 ≡ getD b p 0 → same (left w a p) (left w b p) ≡ same (left w a (p + 1)) (left w b (p + 1))
-  unfolding same
-  same-on p h e = rw (left-cons w a a-fits p h, left-cons w b b-fits p h, eq-eqb (getD a p 0) (getD b p 0) e)
-
-  pub same-not : (p : ℕ) → p < w → (getD a p 0 ≡ getD b p 0 → ⊥) → same (left w a p) (left w b p) ≡ false
-  unfolding same
-  same-not p h e = rw (left-cons w a a-fits p h, left-cons w b b-fits p h, ne-eqb (getD a p 0) (getD b p 0) e)
-
-  pub same-end : (p : ℕ) → p ≡ w → same (left w a p) (left w b p) ≡ true
-  unfolding same
-  same-end p e = rw (left-none w a a-fits p e, left-none w b b-fits p e)
-
-  -- the smaller bytes
   pub before-on :
       (p : ℕ) → p < w → getD a p 0 ≡ getD b p 0 → bytes-before (left w a p) (left w b p) ≡ bytes-before (left w a (p + 1)) (left w b (p + 1))
   unfolding bytes-before

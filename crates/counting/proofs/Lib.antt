@@ -2,4 +2,8 @@ pub mod Bytewise
 pub mod Stored
 pub mod Placed
 pub mod Planes
+pub mod Alike
 pub mod Best
+pub mod Settling
+pub mod Columns
+pub mod Tallied

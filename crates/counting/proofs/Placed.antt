@@ -6,7 +6,7 @@ use mathlib.Core.List.{List, [], _∷_}
 use Prim.Native.Nat.{ℕ, zero, suc, _+_, _*_, _≤_, _<_}
 use native.Mathlib.Omega.{arith}
 use native.Mathlib.Nat.{suc-mul}
-use lib.ListN.{length, getD, take, drop, replicate, length-drop}
+use lib.ListN.{length, getD, take, drop, replicate, length-drop, length-replicate}
 use lib.Seq.{getD-take, getD-drop, drop-drop, length-take-le, ext-getD}
 use borrow.Author.Count.{below-more}
 use Rattle.arrays.specs.Array.{in-front, padded, Written}
@@ -59,10 +59,11 @@ placed-none w f bytes e =
       rest = λ i h. rw e (zeros-at vector-room i);
     }
 
-pub placed-more :
+-- one more by its bytes, where it is written
+pub placed-next :
     (w many : ℕ) (f : ℕ → Value) (v : Value) (bytes now : List ℕ) → Placed w many f bytes → length v ≡ w → v ≡ f many →
-    Written (many * length v) (length v) (λ p. getD v p 0) bytes now → Placed w (many + 1) f now
-placed-more w many f v bytes now a size e written =
+    Written (many * w) w (λ p. getD v p 0) bytes now → Placed w (many + 1) f now
+placed-next w many f v bytes now a size e b =
     record {
       long = b .long ∙ a .long;
       sizes = below-more (λ j. length (f j) ≡ w) many (a .sizes) (ap length (sym e) ∙ size);
@@ -70,11 +71,25 @@ placed-more w many f v bytes now a size e written =
       rest = λ i h. (let next = next-value many w in b .after i (omega arith) ∙ a .rest i (omega arith));
     }
   where
-    b : Written (many * w) w (λ p. getD v p 0) bytes now
-    b = subst (λ (k : ℕ). Written (many * k) k (λ p. getD v p 0) bytes now) size written
-
     passed : (p : ℕ) → p < w → (j : ℕ) → j < many → getD now (j * w + p) 0 ≡ getD (f j) p 0
     passed p l j d = b .before (j * w + p) (omega (arith, value-fits j many w d)) ∙ a .each j p d l
+
+pub placed-more :
+    (w many : ℕ) (f : ℕ → Value) (v : Value) (bytes now : List ℕ) → Placed w many f bytes → length v ≡ w → v ≡ f many →
+    Written (many * length v) (length v) (λ p. getD v p 0) bytes now → Placed w (many + 1) f now
+placed-more w many f v bytes now a size e written =
+    placed-next w many f v bytes now a size e (subst (λ (k : ℕ). Written (many * k) k (λ p. getD v p 0) bytes now) size written)
+
+-- zeros that are left as they are
+pub placed-zeros : (w many : ℕ) (f : ℕ → Value) (bytes : List ℕ) → Placed w many f bytes → f many ≡ replicate w 0 → Placed w (many + 1) f bytes
+placed-zeros w many f bytes a e =
+    record {
+      long = a .long;
+      sizes = below-more (λ j. length (f j) ≡ w) many (a .sizes) (ap length e ∙ length-replicate w 0);
+      each = λ j p h l. below-more (λ i. getD bytes (i * w + p) 0 ≡ getD (f i) p 0) many (λ i d. a .each i p d l)
+          (a .rest (many * w + p) (omega arith) ∙ sym (ap (λ (u : Value). getD u p 0) e ∙ zeros-at w p)) j h;
+      rest = λ i h. (let next = next-value many w in a .rest i (omega arith));
+    }
 
 -- all n of them
 module _ (w n : ℕ) (f : ℕ → Value) (bytes : List ℕ) (a : Placed w n f bytes) (fits : n * w ≤ vector-room) where

@@ -1,5 +1,5 @@
--- Tables as arrays: the values, rows and columns that they hold, entry by entry; and a row put in plane by plane, which changes that
--- row of the planes that a value's bytes reach, and nothing else. Assumes nothing.
+-- Tables as arrays: the values, rows and columns that they hold, entry by entry; a row's bytes plane by plane; and a row put in plane by
+-- plane, which changes that row of every plane, and nothing else. Assumes nothing.
 use mathlib.Core.Path.{_≡_, refl, sym, _∙_, ap}
 use mathlib.Core.Bool.{Bool, true, false, cond}
 use mathlib.Core.List.{List, [], _∷_}
@@ -19,9 +19,9 @@ use Rattle.arrays.proofs.Padded.{padded-at, padded-length}
 use Rattle.code.specs.Size.{most-columns, value-room}
 use Rattle.code.specs.Vector.{plane, same, cut}
 use Rattle.code.proofs.Vectors.Cut.{plane-cut, plane-cut-length}
-use Rattle.grading.specs.Value.{Value, Rows}
+use Rattle.grading.specs.Value.{Value, Vector, Rows}
 use Rattle.grading.specs.Count.{found, next-best, most-from}
-use Rattle.counting.specs.Steps.Table.{Planes, byte-in, value-in, row-in, rows-in, Shaped, Row-put}
+use Rattle.counting.specs.Steps.Table.{Planes, byte-in, value-in, row-in, rows-in, Shaped, Row-planes, Row-put}
 use Rattle.grading.proofs.Value.{entries-length, entries-of, entries-alike}
 use Rattle.counting.proofs.Placed.{cut-entries}
 
@@ -107,22 +107,68 @@ plane-gathered n w p row now h l g =
     written-front n (plane p (cut n w row)) (replicate most-columns 0) now (plane-cut-length p n w row) h
     (written-as (λ k m. ap (λ (i : ℕ). getD row (i + p) 0) (mul-comm w k) ∙ sym (plane-cut n w p row k m l)) g)
 
--- a row put in, plane by plane
-module _ (i n w : ℕ) (row : List ℕ) (x : Planes) where
-  pub row-put-none : Shaped x → Row-put i n w 0 row x x
-  row-put-none s = record { shape = s; new = λ p h. absurd (omega arith); rows-kept = λ p j d. refl; planes-kept = λ p h. refl }
+-- a row's planes, one after the other
+abbrev pub zero-row : List ℕ
+zero-row = replicate most-columns 0
 
-  pub row-put-more :
-      (p : ℕ) (bytes : List ℕ) (now : Planes) → Row-put i n w p row x now → p < value-room → i < most-columns → n ≤ most-columns →
-      bytes ≡ padded most-columns (plane p (cut n w row)) → Row-put i n w (p + 1) row x (set now p (set (getD now p []) i bytes))
-  row-put-more p bytes now a h l m e =
+module _ (vs : Vector) where
+  pub row-planes-none : Row-planes 0 vs (replicate value-room (replicate most-columns 0))
+  row-planes-none =
       record {
-        shape = shape-put now p i bytes p-in i-in (ap length e ∙ padded-length most-columns _ (rw (plane-cut-length p n w row) m)) (a .shape);
-        new = below-more (λ q. getD (getD z q []) i [] ≡ padded most-columns (plane q (cut n w row))) p passed (row-new now p i bytes p-in i-in ∙ e);
-        rows-kept = λ q j d. row-kept now p i bytes p-in i-in q j d ∙ a .rows-kept q j d;
-        planes-kept = λ q d. plane-kept now p i bytes p-in i-in q (omega arith) ∙ a .planes-kept q (omega arith);
+        long = refl;
+        bytes = λ p h. ap length (zeros p h);
+        filled = λ p h. absurd (omega arith);
+        empty = λ p _ h. zeros p h;
       }
     where
+      zeros : (p : ℕ) → p < value-room → getD (replicate value-room zero-row) p [] ≡ zero-row
+      zeros p h = getD-replicate {A = List ℕ} value-room p zero-row [] h
+
+  pub row-planes-more :
+      (p : ℕ) (bytes : List ℕ) (planes : List (List ℕ)) → Row-planes p vs planes → p < value-room → length (plane p vs) ≤ most-columns →
+      bytes ≡ padded most-columns (plane p vs) → Row-planes (p + 1) vs (set planes p bytes)
+  row-planes-more p bytes planes a h few e =
+      record {
+        long = length-set planes p bytes ∙ a .long;
+        bytes = λ q l. wide q l (eqb q p) refl;
+        filled = below-more (λ q. getD (set planes p bytes) q [] ≡ padded most-columns (plane q vs)) p
+            (λ q l. kept q (omega arith) ∙ a .filled q l) (here ∙ e);
+        empty = λ q g l. kept q (omega arith) ∙ a .empty q (omega arith) l;
+      }
+    where
+      here : getD (set planes p bytes) p [] ≡ bytes
+      here = getD-set-same planes p bytes [] (rw (a .long) h)
+
+      kept : (q : ℕ) → (q ≡ p → ⊥) → getD (set planes p bytes) q [] ≡ getD planes q []
+      kept q d = getD-set-other planes p q bytes [] d
+
+      wide : (q : ℕ) → q < value-room → (b : Bool) → eqb q p ≡ b → length (getD (set planes p bytes) q []) ≡ most-columns
+      wide q l true f = rw (eqb-true q p f, here, e) (padded-length most-columns (plane p vs) few)
+      wide q l false f = rw (kept q (eqb-false q p f)) (a .bytes q l)
+
+-- a row put in, plane by plane: so many planes have it
+pub record Row-put-below (i many : ℕ) (planes : List (List ℕ)) (x x-now : Planes) : Type 0 where
+  pub shape : Shaped x-now
+  pub new : (p : ℕ) → p < many → getD (getD x-now p []) i [] ≡ getD planes p []
+  pub rows-kept : (p j : ℕ) → (j ≡ i → ⊥) → getD (getD x-now p []) j [] ≡ getD (getD x p []) j []
+
+module _ (i : ℕ) (planes : List (List ℕ)) (x : Planes) where
+  pub row-put-none : Shaped x → Row-put-below i 0 planes x x
+  row-put-none s = record { shape = s; new = λ p h. absurd (omega arith); rows-kept = λ p j d. refl }
+
+  pub row-put-more :
+      (p : ℕ) (now : Planes) → Row-put-below i p planes x now → p < value-room → i < most-columns → length (getD planes p []) ≡ most-columns →
+      Row-put-below i (p + 1) planes x (set now p (set (getD now p []) i (getD planes p [])))
+  row-put-more p now a h l long =
+      record {
+        shape = shape-put now p i bytes p-in i-in long (a .shape);
+        new = below-more (λ q. getD (getD z q []) i [] ≡ getD planes q []) p passed (row-new now p i bytes p-in i-in);
+        rows-kept = λ q j d. row-kept now p i bytes p-in i-in q j d ∙ a .rows-kept q j d;
+      }
+    where
+      bytes : List ℕ
+      bytes = getD planes p []
+
       z : Planes
       z = set now p (set (getD now p []) i bytes)
 
@@ -132,18 +178,21 @@ module _ (i n w : ℕ) (row : List ℕ) (x : Planes) where
       i-in : i < length (getD now p [])
       i-in = rw (a .shape .rows p h) l
 
-      passed : (q : ℕ) → q < p → getD (getD z q []) i [] ≡ padded most-columns (plane q (cut n w row))
+      passed : (q : ℕ) → q < p → getD (getD z q []) i [] ≡ getD planes q []
       passed q d = ap (λ (rows : List (List ℕ)). getD rows i []) (plane-kept now p i bytes p-in i-in q (omega arith)) ∙ a .new q d
 
-  module _ (now : Planes) (a : Row-put i n w w row x now) where
-    byte-new : (p k : ℕ) → p < w → k < n → byte-in now p i k ≡ getD row (k * w + p) 0
-    unfolding byte-in
-    byte-new p k h l = ap (λ (bs : List ℕ). getD bs k 0) (a .new p h) ∙ padded-at most-columns _ k ∙ plane-cut n w p row k l h
+  pub row-put-all : (p : ℕ) (now : Planes) → p ≡ value-room → Row-put-below i p planes x now → Row-put i planes x now
+  row-put-all p now e a = record { shape = a .shape; new = λ q h. a .new q (omega arith); rows-kept = a .rows-kept }
 
-    pub row-put-row : n * w ≤ length row → row-in n w now i ≡ cut n w row
-    unfolding row-in value-in
-    row-put-row fits =
-        entries-alike n 0 _ _ (λ k l. entries-alike w 0 _ _ (λ p m. byte-new p k (omega arith) (omega arith))) ∙ sym (cut-entries n w row fits)
+  module _ (n w : ℕ) (now : Planes) (a : Row-put i planes x now) where
+    pub row-put-row : (row : List ℕ) → Row-planes w (cut n w row) planes → w ≤ value-room → n * w ≤ length row → row-in n w now i ≡ cut n w row
+    unfolding row-in value-in byte-in
+    row-put-row row r few fits =
+        entries-alike n 0 _ _ (λ k l. entries-alike w 0 _ _ (λ p m. byte p k (omega arith) (omega arith))) ∙ sym (cut-entries n w row fits)
+      where
+        byte : (p k : ℕ) → p < w → k < n → getD (getD (getD now p []) i []) k 0 ≡ getD row (k * w + p) 0
+        byte p k h l =
+            ap (λ (bs : List ℕ). getD bs k 0) (a .new p (omega arith) ∙ r .filled p h) ∙ padded-at most-columns _ k ∙ plane-cut n w p row k l h
 
     pub row-put-others : (j : ℕ) → (j ≡ i → ⊥) → row-in n w now j ≡ row-in n w x j
     unfolding row-in value-in byte-in
@@ -151,7 +200,7 @@ module _ (i n w : ℕ) (row : List ℕ) (x : Planes) where
 
 -- a table as it is made
 abbrev pub zero-plane : List (List ℕ)
-zero-plane = replicate most-columns (replicate most-columns 0)
+zero-plane = replicate most-columns zero-row
 
 pub shape-zeros : Shaped (replicate value-room zero-plane)
 shape-zeros =
@@ -164,5 +213,5 @@ shape-zeros =
     plane-of : (p : ℕ) → p < value-room → getD (replicate value-room zero-plane) p [] ≡ zero-plane
     plane-of p h = getD-replicate {A = List (List ℕ)} value-room p zero-plane [] h
 
-    row-of : (i : ℕ) → i < most-columns → getD zero-plane i [] ≡ replicate most-columns 0
-    row-of i h = getD-replicate {A = List ℕ} most-columns i (replicate most-columns 0) [] h
+    row-of : (i : ℕ) → i < most-columns → getD zero-plane i [] ≡ zero-row
+    row-of i h = getD-replicate {A = List ℕ} most-columns i zero-row [] h

@@ -1,14 +1,12 @@
 -- Values in arrays that hold zeros behind them: given entry by entry, and as a value of w bytes, which is read again from the
 -- array's front. Assumes nothing.
-use mathlib.Core.Path.{_≡_, refl, sym, _∙_, ap}
+use mathlib.Core.Path.{_≡_, _∙_, ap}
 use mathlib.Core.List.{List}
-use Prim.Native.Nat.{ℕ, _+_, _≤_, _<_}
-use native.Mathlib.Omega.{arith}
-use lib.ListN.{length, take, set, replicate, length-replicate}
-use lib.Seq.{take-at, length-take-le}
+use Prim.Native.Nat.{ℕ, _+_, _<_}
+use lib.ListN.{length, take, set}
+use lib.Seq.{take-at}
 use Rattle.arrays.specs.Array.{in-front, padded}
-use Rattle.arrays.proofs.Zeros.{zeros-at}
-use Rattle.arrays.proofs.Padded.{padded-of, padded-more}
+use Rattle.arrays.proofs.Padded.{padded-more}
 use Rattle.code.specs.Size.{value-room}
 use Rattle.grading.specs.Value.{Value, entries}
 use Rattle.counting.specs.Stored.{Stores-value}
@@ -22,11 +20,3 @@ padded-entry room k v f h e = padded-more room (entries k 0 f) k v (entries-leng
 pub stores-value : (w : ℕ) (v : Value) (array : List ℕ) → length v ≡ w → array ≡ padded value-room v → Stores-value w v array
 unfolding padded in-front
 stores-value w v array size e = record { bytes = e; reads = ap (take w) e ∙ take-at v _ w size }
-
-pub stores-blank : (w : ℕ) → w ≤ value-room → Stores-value w (replicate w 0) (replicate value-room 0)
-stores-blank w h =
-    stores-value w (replicate w 0) (replicate value-room 0) (length-replicate w 0)
-    (padded-of value-room (replicate w 0) (replicate value-room 0) refl (rw length-replicate h) (λ i. zeros-at value-room i ∙ sym (zeros-at w i)))
-
-pub stored-size : (w : ℕ) (v : Value) (array : List ℕ) → length array ≡ value-room → w ≤ value-room → Stores-value w v array → length v ≡ w
-stored-size w v array long h s = ap length (sym (s .reads)) ∙ length-take-le w array (omega arith)

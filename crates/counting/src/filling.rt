@@ -5,9 +5,10 @@ ghost use lib.ListN.{length};
 ghost use Rattle.arrays.specs.Array.{padded};
 ghost use Rattle.code.specs.Size.{most-columns, value-room};
 ghost use Rattle.code.specs.Vector.{plane, cut};
-ghost use Rattle.counting.specs.Steps.Table.{Shaped, Row-put};
+ghost use Rattle.counting.specs.Steps.Table.{Shaped, Row-shaped, Row-planes, Row-put};
 use crate::table::Table;
 use code::sizes::MOST_COLUMNS;
+use code::sizes::VALUE_ROOM;
 
 // Byte p of each value of a row, zeros behind them.
 fn plane_of(row: &[u8], n: usize, w: usize, p: usize) -> [u8; MOST_COLUMNS]
@@ -19,15 +20,31 @@ fn plane_of(row: &[u8], n: usize, w: usize, p: usize) -> [u8; MOST_COLUMNS]
     plane
 }
 
-// Row i becomes the n values lent, zeros behind them.
-pub fn put_row(table: &mut Table, i: usize, row: &[u8], n: usize, w: usize)
-    requires { ⌜ (n ≤ most-columns) × (w ≤ value-room) × (i < most-columns) × (n * w ≤ length (now row)) × Shaped (now table) ⌝ }
-    ensures { λ _. ⌜ Row-put i n w w (now (row .entry)) (now (table .entry)) (now (table .exit)) ⌝ }
+// A row's bytes plane by plane.
+pub type RowPlanes = [[u8; MOST_COLUMNS]; VALUE_ROOM];
+
+// The planes of a row of n values of w bytes: zeros behind them, and in the planes that no value reaches.
+pub fn planes_of(row: &[u8], n: usize, w: usize) -> RowPlanes
+    requires { ⌜ (n ≤ most-columns) × (w ≤ value-room) × (n * w ≤ length (now row)) ⌝ }
+    ensures { λ r. ⌜ Row-planes w (cut n w (now (row .entry))) r ⌝ }
 {
+    let mut planes = [[0u8; MOST_COLUMNS]; VALUE_ROOM];
     let mut p = 0;
     while p < w {
-        let plane = plane_of(row, n, w, p);
-        table[p][i] = plane;
+        planes[p] = plane_of(row, n, w, p);
+        p += 1;
+    }
+    planes
+}
+
+// Row i becomes the row whose planes are lent.
+pub fn put_planes(table: &mut Table, i: usize, planes: &RowPlanes)
+    requires { ⌜ (i < most-columns) × Shaped (now table) × Row-shaped (now planes) ⌝ }
+    ensures { λ _. ⌜ Row-put i (now (planes .entry)) (now (table .entry)) (now (table .exit)) ⌝ }
+{
+    let mut p = 0;
+    while p < VALUE_ROOM {
+        table[p][i] = planes[p];
         p += 1;
     }
 }

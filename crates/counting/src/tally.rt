@@ -1,80 +1,62 @@
 // What a table says of each column: Y, and values with their confidences.
-ghost use Prim.Native.Nat.{_≤_, _<_};
+ghost use mathlib.Core.Path.{_≡_};
+ghost use Prim.Native.Nat.{_*_, _≤_, _<_};
+ghost use lib.ListN.{length, getD};
+ghost use Rattle.arrays.specs.Array.{Written};
 ghost use Rattle.code.specs.Settings.{settings};
-ghost use Rattle.code.specs.Size.{most-columns, value-room};
-ghost use Rattle.counting.specs.Stored.{Stores-value, Stores, Stores-held};
-ghost use Rattle.grading.specs.Count.{agreed-at, agreed-vector, held-at, held-list};
-ghost use Rattle.counting.specs.Steps.Table.{rows-in, Rates};
+ghost use Rattle.code.specs.Size.{most-columns, value-room, vector-room};
+ghost use Rattle.counting.specs.Stored.{Stores, Stores-held};
+ghost use Rattle.grading.specs.Count.{agreed-vector, held-list};
+ghost use Rattle.counting.specs.Steps.Table.{value-in, rows-in};
+ghost use Rattle.counting.specs.Steps.Tally.{confidence-by};
+use crate::leaders;
 use crate::table;
 use crate::table::Table;
-use crate::values;
 use crate::vector;
 use code::sizes::MOST_COLUMNS;
-use code::sizes::VALUE_ROOM;
 use code::sizes::VECTOR_ROOM;
 
-// Y at column k: the value found at least n - t times, else blank.
-fn agreed_at(table: &Table, n: usize, t: usize, w: usize, k: usize) -> [u8; VALUE_ROOM]
-    requires { ⌜ (n ≤ most-columns) × (t ≤ n) × (w ≤ value-room) × (k < n) ⌝ }
-    ensures { λ r. ⌜ Stores-value w (agreed-at (settings n t w) (rows-in n w (now (table .entry))) k) r ⌝ }
+// Value k of a vector becomes the value of a row in column k.
+fn put_from_row(vector: &mut [u8; VECTOR_ROOM], table: &Table, w: usize, row: u8, k: usize)
+    requires { ⌜ (w ≤ value-room) × (row < most-columns) × (k < most-columns) × (length (now vector) ≡ vector-room) ⌝ }
+    ensures { λ _. ⌜ Written (k * w) w (λ p. getD (value-in w (now (table .entry)) row k) p 0) (now (vector .entry)) (now (vector .exit)) ⌝ }
 {
-    let best = table::most_found(table, n, w, k);
-    if best.times < n - t {
-        return [0u8; VALUE_ROOM];
-    }
-    let value = best.value;
-    value
+    let value = table::value_at(table, w, row as usize, k);
+    vector::put_value(vector, k, &value[..w]);
 }
 
-pub fn agreed(table: Table, n: usize, t: usize, w: usize) -> [u8; VECTOR_ROOM]
-    requires { ⌜ (n ≤ most-columns) × (t ≤ n) × (w ≤ value-room) ⌝ }
-    ensures { λ r. ⌜ Stores (settings n t w) (agreed-vector (settings n t w) (rows-in n w table)) r ⌝ }
+// Y: of each column the value found at least n - t times, else blank.
+pub fn agreed(table: &Table, n: usize, t: usize, w: usize) -> [u8; VECTOR_ROOM]
+    requires { ⌜ (n ≤ most-columns) × (2 * t < n) × (w ≤ value-room) ⌝ }
+    ensures { λ r. ⌜ Stores (settings n t w) (agreed-vector (settings n t w) (rows-in n w (now (table .entry)))) r ⌝ }
 {
+    let leaders = leaders::find(table, n, w, n - t);
+    let least = (n - t) as u8;
+    let rows = leaders.rows;
+    let times = leaders.times;
     let mut vector = [0u8; VECTOR_ROOM];
     let mut k = 0;
     while k < n {
-        let value = agreed_at(&table, n, t, w, k);
-        vector::put_value(&mut vector, k, &value[..w]);
+        if least <= times[k] {
+            put_from_row(&mut vector, table, w, rows[k], k);
+        }
         k += 1;
     }
     vector
 }
 
-// A value and its confidence.
-pub struct Rated {
-    pub value: [u8; VALUE_ROOM],
-    pub confidence: u8,
-}
-
-// Found 2t + 1 times or more: confidence 2; t + 1 to 2t times: 1; else blank at 0.
-fn held_at(table: &Table, n: usize, t: usize, w: usize, k: usize) -> Rated
-    requires { ⌜ (n ≤ most-columns) × (t ≤ n) × (w ≤ value-room) × (k < n) ⌝ }
-    ensures { λ r. ⌜ Rates w (held-at (settings n t w) (rows-in n w (now (table .entry))) k) r ⌝ }
+// Found 2t + 1 times or more: confidence 2; t + 1 to 2t times: 1; else 0.
+fn confidence(t: u8, times: u8) -> u8
+    requires { ⌜ t ≤ most-columns ⌝ }
+    ensures { λ r. ⌜ r ≡ confidence-by t times ⌝ }
 {
-    let best = table::most_found(table, n, w, k);
-    let value = best.value;
-    if values::is_blank(value, w) {
-        return Rated {
-            value: [0u8; VALUE_ROOM],
-            confidence: 0,
-        };
+    if times <= t {
+        return 0;
     }
-    if 2 * t < best.times {
-        return Rated {
-            value: value,
-            confidence: 2,
-        };
+    if times <= 2 * t {
+        return 1;
     }
-    if t < best.times {
-        return Rated {
-            value: value,
-            confidence: 1,
-        };
-    }
-    Rated {
-        value: [0u8; VALUE_ROOM],
-        confidence: 0,
-    }
+    2
 }
 
 // The values and confidences of all columns.
@@ -83,18 +65,22 @@ pub struct Ratings {
     pub confidences: [u8; MOST_COLUMNS],
 }
 
-pub fn held(table: Table, n: usize, t: usize, w: usize) -> Ratings
-    requires { ⌜ (n ≤ most-columns) × (t ≤ n) × (w ≤ value-room) ⌝ }
-    ensures { λ r. ⌜ Stores-held (settings n t w) (held-list (settings n t w) (rows-in n w table)) (r .values) (r .confidences) ⌝ }
+pub fn held(table: &Table, n: usize, t: usize, w: usize) -> Ratings
+    requires { ⌜ (n ≤ most-columns) × (2 * t < n) × (w ≤ value-room) ⌝ }
+    ensures { λ r. ⌜ Stores-held (settings n t w) (held-list (settings n t w) (rows-in n w (now (table .entry)))) (r .values) (r .confidences) ⌝ }
 {
+    let leaders = leaders::find(table, n, w, t + 1);
+    let bad = t as u8;
+    let rows = leaders.rows;
+    let times = leaders.times;
     let mut values = [0u8; VECTOR_ROOM];
     let mut confidences = [0u8; MOST_COLUMNS];
     let mut k = 0;
     while k < n {
-        let rated = held_at(&table, n, t, w, k);
-        let value = rated.value;
-        vector::put_value(&mut values, k, &value[..w]);
-        confidences[k] = rated.confidence;
+        if bad < times[k] {
+            put_from_row(&mut values, table, w, rows[k], k);
+        }
+        confidences[k] = confidence(bad, times[k]);
         k += 1;
     }
     Ratings {

@@ -3,7 +3,6 @@ ghost use mathlib.Core.Path.{_≡_};
 ghost use Prim.Native.Nat.{_≤_};
 ghost use lib.ListN.{take};
 ghost use Rattle.code.specs.Size.{value-room};
-ghost use Rattle.code.specs.Vector.{same};
 ghost use Rattle.grading.specs.Value.{is-blank, bytes-before};
 use code::sizes::VALUE_ROOM;
 
@@ -12,20 +11,6 @@ pub fn is_blank(value: [u8; VALUE_ROOM], w: usize) -> bool
     ensures { λ r. ⌜ r ≡ is-blank (take w value) ⌝ }
 {
     arrays::is_zero(&value[..w])
-}
-
-pub fn is_same(a: [u8; VALUE_ROOM], b: [u8; VALUE_ROOM], w: usize) -> bool
-    requires { ⌜ w ≤ value-room ⌝ }
-    ensures { λ r. ⌜ r ≡ same (take w a) (take w b) ⌝ }
-{
-    let mut p = 0;
-    while p < w {
-        if a[p] != b[p] {
-            return false;
-        }
-        p += 1;
-    }
-    true
 }
 
 // Whether the bytes of a are the smaller ones.

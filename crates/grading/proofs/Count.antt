@@ -1,6 +1,7 @@
 -- Counting over slots. Of n slots those that are not in a list of different numbers 1 to n are n less its length. Two tables that
 -- have the same at the slots of a list differ in any count by at most the slots that are not in it; a value at all slots of the
--- list is found in all but those; and a value found more often than those stands at a slot of the list. Assumes nothing.
+-- list is found in all but those; and a value found more often than those stands at a slot of the list. A value in a row is found, and
+-- one value, or two different ones together, in no more than all rows. Assumes nothing.
 use mathlib.Core.Path.{_≡_, refl, sym, _∙_, subst}
 use mathlib.Core.Bool.{Bool, true, false, cond, _||_, not}
 use mathlib.Core.List.{List, [], _∷_}
@@ -114,6 +115,23 @@ found-at ns j v (x ∷ xs) i h = go (member i ns) (same (getD x j []) v) refl re
     go true false e f l later = later (omega arith)
     go false true e f l later = later (omega arith)
     go false false e f l later = later (omega arith)
+
+-- a value that stands in a row is found
+pub found-entry : (j : ℕ) (xs : Rows) (i : ℕ) → i < length xs → 1 ≤ found j (getD (getD xs i []) j []) xs
+unfolding found
+found-entry j [] i h = absurd (omega arith)
+found-entry j (x ∷ xs) zero h = rw (same-of-equal (getD x j []) (getD x j []) refl) (omega arith)
+found-entry j (x ∷ xs) (suc i) h = omega (arith, found-entry j xs i (omega arith))
+
+-- no value is found more often than there are rows
+pub found-le : (j : ℕ) (v : Value) (xs : Rows) → found j v xs ≤ length xs
+unfolding found
+found-le j v [] = omega arith
+found-le j v (x ∷ xs) = omega (arith, go (same (getD x j []) v), found-le j v xs)
+  where
+    go : (q : Bool) → cond q 1 0 ≤ 1
+    go true = omega arith
+    go false = omega arith
 
 -- two different values share the rows
 pub found-two : (j : ℕ) (u v : Value) (xs : Rows) → (u ≡ v → ⊥) → found j u xs + found j v xs ≤ length xs

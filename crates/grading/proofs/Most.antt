@@ -38,7 +38,7 @@ leading-trans j all u v w a b =
 
 module _ (j : ℕ) (all : Rows) where
   -- what goes before the best is no blank, and found more often, or as often with the smaller bytes
-  better-filled : (v b : Value) → better j all v b ≡ true → is-blank v ≡ false
+  pub better-filled : (v b : Value) → better j all v b ≡ true → is-blank v ≡ false
   unfolding better better-by
   better-filled v b e = not-true (is-blank v) (and-split (not (is-blank v)) _ e .0)
 
@@ -64,7 +64,7 @@ module _ (j : ℕ) (all : Rows) where
       go true f = better-leads v b e f
       go false f = leading-self j all b e
 
-  next-takes : (v b : Value) → is-blank v ≡ false → Leading j all v (next-best j all v b)
+  pub next-takes : (v b : Value) → is-blank v ≡ false → Leading j all v (next-best j all v b)
   unfolding next-best better better-by
   next-takes v b e =
       rw e
