@@ -1,3 +1,4 @@
 pub mod Rows
 pub mod SenderRow
+pub mod TableRows
 pub mod AfterRound

@@ -2,8 +2,8 @@
 -- it leaves in front of a row of zeros is the repaired vector, or, where there is none, the zeros, which are blanks; and what it tells is
 -- the places changed, or the mark. Assumes nothing.
 use mathlib.Core.Path.{_≡_, refl, sym, _∙_, ap, ap₂, subst}
-use mathlib.Core.Bool.{true}
-use mathlib.Core.List.{List, [], _∷_, _++_, map, append-assoc}
+use mathlib.Core.Bool.{Bool, true, false}
+use mathlib.Core.List.{List, _∷_, _++_, append-assoc}
 use mathlib.Core.Logic.{inl, inr}
 use mathlib.Core.Option.{some}
 use mathlib.Mathlib.Data.Bool.Basic.{and-intro}
@@ -12,10 +12,7 @@ use native.Mathlib.Nat.{suc-mul}
 use native.Mathlib.Omega.{arith}
 use lib.ListN.{length, take, drop, replicate, length-drop, take-append-drop}
 use lib.Seq.{length-take-le}
-use borrow.Author.Tests.{eq-eqb, le-ltb}
-use mir.Syntax.{w8}
-use mir.Val.{WT, vint}
-use denote.Array.{arrayVal}
+use borrow.Author.Tests.{eq-eqb, ne-eqb, le-ltb}
 use Rattle.arrays.specs.Array.{in-front}
 use Rattle.code.specs.Settings.{Settings, settings, settings-refusal, check-count, value-size}
 use Rattle.code.specs.Vector.{is-vector, are-checks, has-checks, cut, glued}
@@ -23,9 +20,11 @@ use Rattle.code.specs.Entry.{values-in}
 use Rattle.arrays.proofs.Bytes.{Bytes}
 use Rattle.code.proofs.Vectors.Cut.{cut-length, cut-values, value-fits}
 use Rattle.code.proofs.ValidSettings.{values-fit, sizes}
-use Rattle.code.proofs.Vectors.Planes.{vector-of, values-back}
+use Rattle.code.proofs.Vectors.Planes.{vector-of, values-back, same-equal}
 use Rattle.repair.specs.Entry.{none-found, Done, Done-by, repair-refusal, repair-by-refusal, Repair-by-as, Repair-by-says}
+use Rattle.repair.specs.Again.{Again-says}
 use Rattle.repair.specs.Promise.{By-own-checks}
+use Rattle.repair.specs.declared.RepairAnswer.{RepairAnswer}
 use Rattle.repair.proofs.Difference.ByOwnChecks.{by-own-checks}
 use Rattle.grading.specs.Value.{blank, blanks}
 use Rattle.grading.proofs.Value.{take-replicate}
@@ -34,13 +33,9 @@ use Rattle.record.specs.Frame.{checks-in}
 use Rattle.record.specs.Record.{told-missing, told-none}
 use Rattle.rounds.specs.Exchange.{Row}
 use Rattle.rounds.specs.Promise.{No-mark}
+use Rattle.rounds.specs.Steps.Senders.{told-of, Repaired-again}
 use Rattle.rounds.proofs.Rows.{Sized, checked-vector, no-mark}
 use Rattle.record.proofs.Front.{cut-glued, cut-front}
-
--- an array of bytes in a struct holds bytes
-pub bytes-typed : (xs : List ℕ) → WT (arrayVal (map (vint w8) (map (λ x. x) xs))) → Bytes xs
-bytes-typed [] t = tt
-bytes-typed (x ∷ xs) t = (t .0 .fits, bytes-typed xs (t .1))
 
 -- a vector has room in its array
 pub vector-fits : (n t w : ℕ) → settings-refusal (settings n t w) ≡ 0 → n * w ≤ 256
@@ -166,3 +161,19 @@ module _ (n t w size count : ℕ) (vector own x row : List ℕ) (fine : settings
       done-few s (values-in s n vector) x row empty r m _ z fine (cut-length n w vector) done,
       λ told e f. rw many (done-row s (values-in s n vector) x row empty r m told z e f done),
     )
+
+  -- the same by the last repair: its answer where its checks are these
+  pub repaired-again :
+      (ls : List ℕ) (last a : RepairAnswer) (again : Bool) (z : List ℕ) →
+      Again-says n t w (take size vector) (take count own) ls x last again a (take size row) z →
+      Repaired-again s (values-in s n vector) x ls last again a (z ++ drop size row)
+  unfolding Again-says Repaired-again told-of settings check-count value-size
+  repaired-again ls last a true z says = (sym (same-equal ls x (says .0)), says .1)
+  repaired-again ls last a false z says =
+      let found = repaired-row (a .answer) (a .changed) (a .tried) z (says .1) in (found .0, found .1 (told-of a) places mark)
+    where
+      places : a .answer ≡ 0 → told-of a ≡ a .changed
+      places f = rw (eq-eqb (a .answer) 0 f) refl
+
+      mark : (a .answer ≡ 0 → ⊥) → told-of a ≡ told-none
+      mark f = rw (ne-eqb (a .answer) 0 f) refl

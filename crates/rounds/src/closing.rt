@@ -6,10 +6,11 @@ ghost use lib.ListN.{length, take};
 ghost use Rattle.code.specs.Size.{most-columns, value-room};
 ghost use Rattle.code.specs.Entry.{values-in};
 ghost use Rattle.counting.specs.Stored.{Stores};
-ghost use Rattle.counting.specs.Steps.Table.{rows-in};
+ghost use Rattle.counting.specs.Steps.Table.{rows-in, Shaped};
 ghost use Rattle.record.specs.Refusal.{record-refusal, close-refusal};
 ghost use Rattle.rounds.specs.Exchange.{value-or-blank, heard-vector};
 ghost use Rattle.record.specs.View.{settings-of, who-in, frame-in, inbox, view};
+ghost use Rattle.rounds.specs.Steps.Senders.{Blank-rows};
 ghost use Rattle.rounds.specs.Steps.Closing.{Table-told, Finds, checked-in};
 use crate::senders;
 use code::sizes::MOST_COLUMNS;
@@ -73,20 +74,21 @@ pub fn checked(round: u32, found: Findings) -> [u8; VECTOR_ROOM]
     agreed
 }
 
-// The table of rounds two and three, X or Z, from V or Y; what it tells of each sender goes to the front of an array.
-fn table(
+// The table of rounds two and three, X or Z, from V or Y, put over blanks; what it tells of each sender goes to the front of an array.
+fn put_table(
     who: Identity,
     round: u32,
     slots: [Slot; MOST_COLUMNS],
     vector: [u8; VECTOR_ROOM],
+    table: &mut Table,
     told: &mut [u8],
-) -> Table
-    requires { ⌜ (record-refusal (who-in who) ≡ 0) × (2 ≤ round) × (most-columns ≤ length (now told)) ⌝ }
-    ensures { λ r. ⌜ Table-told (inbox who round slots) (values-in (settings-of who) (who .n) vector) (rows-in (who .n) (who .w) r) (now (told .entry)) (now (told .exit)) ⌝ }
+)
+    requires { ⌜ (record-refusal (who-in who) ≡ 0) × (2 ≤ round) × (most-columns ≤ length (now told)) × Shaped (now table) × Blank-rows (settings-of who) (now table) ⌝ }
+    ensures { λ _. ⌜ Table-told (inbox who round slots) (values-in (settings-of who) (who .n) vector) (rows-in (who .n) (who .w) (now (table .exit))) (now (told .entry)) (now (told .exit)) ⌝ }
 {
     let own = senders::with_checks(who.n, who.t, who.w, vector);
     let number = who.number as usize;
-    senders::table_of(own, number, slots, told)
+    senders::put_table(own, number, slots, table, told);
 }
 
 // What the column has found when its round is closed.
@@ -104,17 +106,18 @@ pub fn found_after(column: Column) -> Findings
     }
     let vector = checked(column.round, found);
     let mut told = [0u8; MOST_COLUMNS];
-    let rows = table(who, column.round, slots, vector, &mut told);
+    let mut table = [[[0u8; MOST_COLUMNS]; MOST_COLUMNS]; VALUE_ROOM];
+    put_table(who, column.round, slots, vector, &mut table, &mut told);
     let n = who.n as usize;
     let t = who.t as usize;
     let w = who.w as usize;
     if column.round == 2 {
-        let agreed = tally::agreed(rows, n, t, w);
+        let agreed = tally::agreed(&table, n, t, w);
         found.agreed = agreed;
         found.told_two = told;
         return found;
     }
-    let held = tally::held(rows, n, t, w);
+    let held = tally::held(&table, n, t, w);
     let values = held.values;
     let confidences = held.confidences;
     found.values = values;

@@ -1,17 +1,19 @@
 // The table of a round: for each sender the own vector, repaired by the checks that came in its frame.
 ghost use mathlib.Core.Path.{_≡_};
-ghost use mathlib.Core.Bool.{true, false};
-ghost use Prim.Native.Nat.{_*_, _≤_};
+ghost use mathlib.Core.Bool.{true};
+ghost use Prim.Native.Nat.{_*_, _≤_, _<_};
 ghost use lib.ListN.{length};
 ghost use Rattle.code.specs.Settings.{settings, settings-refusal, check-count, value-size};
-ghost use Rattle.code.specs.Size.{most-columns, vector-room};
+ghost use Rattle.code.specs.Size.{most-columns, vector-room, checks-room};
 ghost use Rattle.code.specs.Vector.{has-checks};
 ghost use Rattle.code.specs.Entry.{values-in};
+ghost use Rattle.grading.specs.Value.{blanks};
+ghost use Rattle.counting.specs.Steps.Table.{Shaped};
 ghost use Rattle.record.specs.Frame.{checks-in};
-ghost use Rattle.rounds.specs.Steps.Senders.{coded-settings, coded-vector, Coded-right, Slot-row, Slots-told};
+ghost use Rattle.record.specs.Record.{told-missing};
+ghost use Rattle.rounds.specs.Steps.Senders.{coded, coded-settings, coded-vector, Coded-right, checks-size, told-of, Repaired-again, Slot-repaired, Blank-rows, Slots-told};
 use code::sizes::CHECKS_ROOM;
 use code::sizes::MOST_COLUMNS;
-use code::sizes::VALUE_ROOM;
 use code::sizes::VECTOR_ROOM;
 use counting::filling;
 use counting::table::Table;
@@ -20,6 +22,9 @@ use record::Slot;
 use record::TOLD_MISSING;
 use record::TOLD_NONE;
 use record::frames;
+use repair::RepairAnswer;
+use repair::again::Again;
+use repair::again::repair_again;
 
 // The check values of a vector that stands in the front of an array.
 pub fn put_checks(n: u32, t: u32, w: u32, values: &[u8], operand: &mut [u8])
@@ -55,79 +60,131 @@ pub fn with_checks(n: u32, t: u32, w: u32, vector: [u8; VECTOR_ROOM]) -> Coded
     }
 }
 
-// A sender's row, and what it tells of the sender: how many places were changed, or a mark.
-pub struct Row {
-    pub values: [u8; VECTOR_ROOM],
-    pub told: u8,
+// What a repair tells of a sender: how many places were changed, or the mark of "none".
+fn told_by(answer: RepairAnswer) -> u8
+    requires { ⌜ answer .changed < told-missing ⌝ }
+    ensures { λ r. ⌜ r ≡ told-of answer ⌝ }
+{
+    if answer.answer != 0 {
+        return TOLD_NONE;
+    }
+    answer.changed as u8
 }
 
-// The row of a sender: a missing frame gives blanks, and so does "none", which leaves the row as it was.
-fn repaired(own: Coded, slot: Slot) -> Row
-    requires { ⌜ Coded-right own ⌝ }
-    ensures { λ r. ⌜ Slot-row (coded-settings own) (coded-vector own) false slot (values-in (coded-settings own) (own .n) (r .values)) (r .told) ⌝ }
+// The row of a sender by the checks that came, written over blanks, which "none" leaves. The checks of the last repair have its answer
+// again.
+fn by_checks(
+    n: u32,
+    t: u32,
+    w: u32,
+    vector: &[u8],
+    own: &[u8],
+    checks: &[u8],
+    last_checks: &[u8],
+    last: RepairAnswer,
+    row: &mut [u8],
+) -> Again
+    requires { ⌜ Coded-right (coded n t w (now vector) (now own)) × (length (now vector) ≡ vector-room) × (length (now own) ≡ checks-room) ⌝ }
+    requires { ⌜ (length (now checks) ≡ checks-size (settings n t w)) × (length (now row) ≡ vector-room) × (values-in (settings n t w) n (now row) ≡ blanks (settings n t w)) ⌝ }
+    ensures { λ r. ⌜ Repaired-again (settings n t w) (values-in (settings n t w) n (now (vector .entry))) (now (checks .entry)) (now («last_checks» .entry)) last (r .again) (r .answer) (now (row .exit)) ⌝ }
 {
-    let mut values = [0u8; VECTOR_ROOM];
-    if slot.taken == 0 {
-        return Row {
-            values,
-            told: TOLD_MISSING,
-        };
-    }
-    let size = record::vector_size(own.n, own.w);
-    let count = frames::operand_size(own.t, own.w, 2);
-    let end = HEADER + count;
-    let vector = own.vector;
-    let own_checks = own.checks;
-    let frame = slot.bytes;
-    let outcome = repair::repair_by(
-        own.n,
-        own.t,
-        own.w,
+    let size = record::vector_size(n, w);
+    let count = frames::operand_size(t, w, 2);
+    repair_again(
+        n,
+        t,
+        w,
         &vector[..size],
-        &own_checks[..count],
-        &frame[HEADER..end],
-        &mut values[..size],
-    );
-    if outcome.answer != 0 {
-        return Row {
-            values,
-            told: TOLD_NONE,
-        };
-    }
-    Row {
-        values,
-        told: outcome.changed as u8,
-    }
+        &own[..count],
+        checks,
+        last_checks,
+        last,
+        &mut row[..size],
+    )
 }
 
-// The row of a slot, which may be the column's own.
-fn slot_row(own: Coded, mine: bool, slot: Slot) -> Row
-    requires { ⌜ Coded-right own ⌝ }
-    ensures { λ r. ⌜ Slot-row (coded-settings own) (coded-vector own) mine slot (values-in (coded-settings own) (own .n) (r .values)) (r .told) ⌝ }
+// The same of a slot's frame, whose checks are the last ones from then on.
+fn repaired(
+    n: u32,
+    t: u32,
+    w: u32,
+    vector: &[u8],
+    own: &[u8],
+    slot: Slot,
+    last_checks: &mut [u8],
+    last: RepairAnswer,
+    row: &mut [u8],
+) -> Again
+    requires { ⌜ Coded-right (coded n t w (now vector) (now own)) × (length (now vector) ≡ vector-room) × (length (now own) ≡ checks-room) ⌝ }
+    requires { ⌜ (length (now «last_checks») ≡ checks-room) × (length (now row) ≡ vector-room) × (values-in (settings n t w) n (now row) ≡ blanks (settings n t w)) ⌝ }
+    ensures { λ r. ⌜ Slot-repaired (settings n t w) (values-in (settings n t w) n (now (vector .entry))) slot (now («last_checks» .entry)) (now («last_checks» .exit)) last (r .again) (r .answer) (now (row .exit)) ⌝ }
 {
-    if mine {
-        let values = own.vector;
-        return Row { values, told: 0 };
-    }
-    repaired(own, slot)
+    let count = frames::operand_size(t, w, 2);
+    let end = HEADER + count;
+    let frame = slot.bytes;
+    let now = by_checks(
+        n,
+        t,
+        w,
+        vector,
+        own,
+        &frame[HEADER..end],
+        &last_checks[..count],
+        last,
+        row,
+    );
+    arrays::copy(last_checks, 0, &frame, HEADER, count);
+    now
 }
 
-// The table of a column with this number; what it tells of each sender goes to the front of an array.
-pub fn table_of(own: Coded, number: usize, slots: [Slot; MOST_COLUMNS], told: &mut [u8]) -> Table
-    requires { ⌜ Coded-right own × (most-columns ≤ length (now told)) ⌝ }
-    ensures { λ r. ⌜ Slots-told (coded-settings own) (coded-vector own) number slots r (now (told .entry)) (now (told .exit)) ⌝ }
+// The table of a column with this number, put over blanks, which a missing frame leaves; what it tells of each sender goes to the front
+// of an array. The own row goes in last, over what stands there.
+pub fn put_table(
+    own: Coded,
+    number: usize,
+    slots: [Slot; MOST_COLUMNS],
+    table: &mut Table,
+    told: &mut [u8],
+)
+    requires { ⌜ Coded-right own × (1 ≤ number) × (number ≤ own .n) × (most-columns ≤ length (now told)) ⌝ }
+    requires { ⌜ Shaped (now table) × Blank-rows (coded-settings own) (now table) ⌝ }
+    ensures { λ _. ⌜ Slots-told (coded-settings own) (coded-vector own) number slots (now (table .exit)) (now (told .entry)) (now (told .exit)) ⌝ }
 {
     let n = own.n as usize;
     let w = own.w as usize;
-    let mut table = [[[0u8; MOST_COLUMNS]; MOST_COLUMNS]; VALUE_ROOM];
+    let vector = own.vector;
+    let own_checks = own.checks;
+    let mine = filling::planes_of(&vector, n, w);
+    let mut planes = mine;
+    let mut checks = own.checks;
+    let mut last = repair::untried(0);
     let mut i = 0;
     while i < n {
         let slot = slots[i];
-        let row = slot_row(own, i + 1 == number, slot);
-        let values = row.values;
-        filling::put_row(&mut table, i, &values, n, w);
-        told[i] = row.told;
+        if slot.taken == 0 {
+            told[i] = TOLD_MISSING;
+        } else {
+            let mut row = [0u8; VECTOR_ROOM];
+            let now = repaired(
+                own.n,
+                own.t,
+                own.w,
+                &vector,
+                &own_checks,
+                slot,
+                &mut checks,
+                last,
+                &mut row,
+            );
+            if !now.again {
+                planes = filling::planes_of(&row, n, w);
+            }
+            last = now.answer;
+            filling::put_planes(table, i, &planes);
+            told[i] = told_by(last);
+        }
         i += 1;
     }
-    table
+    filling::put_planes(table, number - 1, &mine);
+    told[number - 1] = 0;
 }

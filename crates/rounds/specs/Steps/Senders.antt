@@ -1,21 +1,28 @@
 -- The rows of a round's table as the program makes them. Assumes nothing: these are definitions.
 use mathlib.Core.Path.{_≡_}
-use mathlib.Core.Bool.{Bool, true, false}
+use mathlib.Core.Bool.{Bool, true, false, cond}
 use mathlib.Core.List.{List, []}
+use mathlib.Core.Option.{some}
 use Prim.Native.Nat.{ℕ, _+_, _*_, _<_}
 use lib.Dec.{eqb}
 use lib.ListN.{length, getD, take}
 use Rattle.arrays.specs.Array.{in-front}
 use Rattle.code.specs.Settings.{Settings, settings, settings-refusal, check-count, value-size}
-use Rattle.code.specs.Vector.{has-checks}
+use Rattle.code.specs.Vector.{has-checks, cut}
 use Rattle.code.specs.Entry.{values-in}
-use Rattle.grading.specs.Value.{Vector}
-use Rattle.counting.specs.Steps.Table.{Planes, row-in}
-use Rattle.record.specs.Frame.{checks-in}
+use Rattle.grading.specs.Value.{Vector, blanks}
+use Rattle.counting.specs.Steps.Table.{Planes, row-in, Row-planes}
+use Rattle.record.specs.Frame.{checks-in, operand-in}
+use Rattle.record.specs.Record.{told-missing, told-none}
+use Rattle.repair.specs.declared.RepairAnswer.{RepairAnswer}
 use Rattle.rounds.specs.Exchange.{Row}
 use Rattle.record.specs.View.{frame-in}
 use Rattle.record.specs.declared.Slot.{Slot}
 use Rattle.rounds.specs.declared.senders.Coded.{Coded}
+
+-- a coded vector by its parts
+abbrev pub coded : (n t w : ℕ) → (vector checks : List ℕ) → Coded
+coded n t w vector checks = record { n = n; t = t; w = w; vector = vector; checks = checks }
 
 -- the settings of a coded vector
 unfoldable pub coded-settings : Coded → Settings
@@ -37,6 +44,35 @@ pub record Coded-right (c : Coded) : Type 0 where
 unfoldable pub Slot-row : Settings → (own : Vector) → (mine : Bool) → Slot → (row : Vector) → (told : ℕ) → Type 0
 Slot-row s vs true x row m = (row ≡ vs) × (m ≡ 0)
 Slot-row s vs false x row m = Row s vs (frame-in (check-count s * value-size s) x) row m
+
+-- what repair answered as it is told of the sender: how many places were changed, or the mark of "none"
+unfoldable pub told-of : RepairAnswer → ℕ
+told-of a = cond (eqb (a .answer) 0) (a .changed) told-none
+
+-- how many bytes the check values have
+abbrev pub checks-size : Settings → ℕ
+checks-size s = check-count s * value-size s
+
+-- the row by the checks x: the last answer again where they are the last ones, else the row as an array, and what it tells
+unfoldable pub Repaired-again : Settings → (own : Vector) → (x last-checks : List ℕ) → (last : RepairAnswer) → (again : Bool) → RepairAnswer → (row : List ℕ) → Type 0
+Repaired-again s vs x ls last true a row = (x ≡ ls) × (a ≡ last)
+Repaired-again s vs x ls last false a row = (a .changed < told-missing) × Row s vs (some x) (values-in s (s .n) row) (told-of a)
+
+-- the same of a slot's frame, where the checks stand in front of an array, and its checks come there
+pub record Slot-repaired (s : Settings) (vs : Vector) (x : Slot) (ls ls-now : List ℕ) (last : RepairAnswer) (again : Bool) (a : RepairAnswer) (row : List ℕ) :
+    Type 0 where
+  pub long : length ls-now ≡ length ls
+  pub kept : take (checks-size s) ls-now ≡ take (checks-size s) (operand-in (x .bytes))
+  pub found : Repaired-again s vs (take (checks-size s) (operand-in (x .bytes))) (take (checks-size s) ls) last again a row
+
+-- the planes that stood, or those of the row lent
+unfoldable pub Planes-next : (again : Bool) → (n w : ℕ) → (planes : List (List ℕ)) → (row : List ℕ) → (planes-now : List (List ℕ)) → Type 0
+Planes-next true n w planes row now = now ≡ planes
+Planes-next false n w planes row now = Row-planes w (cut n w row) now
+
+-- a table whose rows are blanks
+abbrev pub Blank-rows : Settings → Planes → Type 0
+Blank-rows s x = (j : ℕ) → j < s .n → row-in (s .n) (value-size s) x j ≡ blanks s
 
 -- what stands for a slot past the last
 abbrev pub slot-past : Slot

@@ -1,141 +1,89 @@
--- `repaired` meets its contract: a missing frame leaves the row of zeros, and repair puts its answer in front of it; the
--- places changed are told, or a mark. Assumes nothing.
-use mathlib.Core.Path.{_≡_, refl, sym}
-use mathlib.Core.Bool.{false}
-use mathlib.Core.List.{_++_}
-use Prim.Native.Nat.{ℕ, _+_, _*_, _-_, _<_, _≤_}
+-- `repaired` meets its contract: the part of the frame behind its header goes to repair, and to the front of the last checks.
+-- Assumes nothing.
+use mathlib.Core.Path.{_≡_, sym, _∙_, ap}
+use Prim.Native.Nat.{ℕ, _+_, _-_, _≤_}
 use native.Mathlib.Omega.{arith}
-use lib.ListN.{length, take, drop, replicate, length-drop}
+use lib.ListN.{length, take, drop, length-drop}
 use lib.Seq.{length-take-le}
 use borrow.Author.Needs.{needs}
+use Rattle.arrays.proofs.Front.{copied-part, front-value}
 use Rattle.code.specs.Settings.{settings, check-count, value-size}
-use Rattle.code.specs.Entry.{values-in}
-use Rattle.arrays.proofs.Bytes.{Bytes, bytes-take, bytes-drop}
-use Rattle.code.proofs.ValidSettings.{sizes, Sizes}
-use Rattle.record.specs.Frame.{operand-in, header-size, operand-size}
-use Rattle.record.specs.Record.{told-missing, told-none}
-use Rattle.rounds.specs.Exchange.{Row}
-use Rattle.rounds.specs.declared.senders.Coded.{Coded}
-use Rattle.rounds.specs.Steps.Senders.{coded-settings, coded-vector, Slot-row}
-use Rattle.record.proofs.View.{frame-of-empty, frame-of-taken}
-use Rattle.rounds.proofs.SenderRow.{bytes-typed, vector-fits, zeros-blanks, repaired-row}
+use Rattle.code.proofs.ValidSettings.{sizes}
+use Rattle.record.specs.Frame.{header-size, operand-size, operand-in}
+use Rattle.rounds.specs.Steps.Senders.{coded-settings}
 use Rattle.rounds.proofs.senders.repaired.Statement.{statement}
 use Rattle.rounds.proofs.senders.repaired.Tie as tie
 
--- the settings are within bounds
-few : (c : tie.Start) → Sizes (coded-settings (c .args .own))
-few c = sizes _ (c .pre .fine)
-
-returns : tie.Need-returns
-unfolding Slot-row Row coded-settings coded-vector settings value-size
-returns c =
-    let a = c .before .before .args in
-    let s = settings (a .own .n) (a .own .t) (a .own .w) in
-    rw (frame-of-empty (check-count s * value-size s) (a .slot) (c .if1 .taken)) (zeros-blanks s 256 (vector-fits _ _ _ (c .before .before .pre .fine)), refl)
-
-vector-size-requires : tie.Need-vector-size-requires
-unfolding coded-settings settings
-vector-size-requires c κs = let z = few (c .before .before) in (z .few-columns, z .few-bytes)
-
 operand-size-requires : tie.Need-operand-size-requires
 unfolding coded-settings settings
-operand-size-requires c κs = let z = few (c .before .before .before) in (omega arith, z .few-bytes)
+operand-size-requires c κs = let z = sizes _ (c .before .before .before .before .pre .0 .0 .fine) in (omega arith, z .few-bytes)
 
--- the sizes worked out: vector, checks and frame have them
-abbrev start : tie.After-operand-size → tie.Start
-start c = c .before .before .before .before
+-- the checks' size, for which frame and last checks have room
+record Sized (c : tie.After-operand-size) : Type 0 where
+  frame : header-size + c .operand-size .result ≤ length (c .before .before .before .before .before .args .slot .bytes)
+  last : c .operand-size .result ≤ length (c .before .before .before .before .before .args .last-checks .now)
 
-record Held (c : tie.After-operand-size) : Type 0 where
-  vector : c .before .vector-size .result ≤ length (start c .args .own .vector)
-  checks : c .operand-size .result ≤ length (start c .args .own .checks)
-  frame : header-size + c .operand-size .result ≤ length (start c .args .slot .bytes)
+frame-long : (c : tie.After-operand-size) → length (c .before .before .before .before .before .args .slot .bytes) ≡ 164
+frame-long c = search needs
 
-held : (c : tie.After-operand-size) → Held c
-held c =
-    let a = start c .args in
-    let vector-long : length (a .own .vector) ≡ 256 = search needs in
-    let checks-long : length (a .own .checks) ≡ 160 = search needs in
-    let frame-long : length (a .slot .bytes) ≡ 164 = search needs in
-    record { vector = omega arith; checks = omega arith; frame = omega arith }
+sized : (c : tie.After-operand-size) → Sized c
+sized c =
+    let long = frame-long c in record { frame = omega arith; last = omega (arith, c .before .before .before .before .before .pre) }
 
-abbrev sized : tie.After-frame → tie.After-operand-size
-sized c = c .before .before .before
+part-by-checks-end : tie.Need-part-by-checks-end
+part-by-checks-end c = omega (arith, sized (c .before .before))
 
-array-share-prefix-vector : tie.Need-array-share-prefix-vector
-array-share-prefix-vector c = held (sized c) .vector
+slice-aggregate-by-checks : tie.Need-slice-aggregate-by-checks
+slice-aggregate-by-checks c = sym (length-take-le _ _ (sized (c .before .before .before .before) .last))
 
-slice-aggregate-repair-by : tie.Need-slice-aggregate-repair-by
-slice-aggregate-repair-by c = sym (length-take-le _ _ (held (sized (c .before)) .vector))
+-- the part behind the header
+part-long : (c : tie.After-operand-size) → let bytes = c .before .before .before .before .before .args .slot .bytes in
+    length (take (header-size + c .operand-size .result - header-size) (drop header-size bytes)) ≡ c .operand-size .result
+part-long c =
+    let bytes = c .before .before .before .before .before .args .slot .bytes in
+    length-take-le _ _ (omega (arith, sized c, length-drop header-size bytes)) ∙ (let e : header-size + c .operand-size .result - header-size ≡ c .operand-size .result = omega arith in e)
 
-array-share-prefix-own-checks : tie.Need-array-share-prefix-own-checks
-array-share-prefix-own-checks c = held (sized (c .before)) .checks
+by-checks-requires : tie.Need-by-checks-requires
+unfolding coded-settings settings operand-size check-count value-size
+by-checks-requires c κs =
+    let z = c .before .before .before .before .before in
+    let k = z .before .before .before .before .before in
+    (k .pre .0, (part-long z ∙ z .operand-size .ensures .0, k .pre .1 .1, k .pre .1 .2))
 
-slice-aggregate-repair-by-2 : tie.Need-slice-aggregate-repair-by-2
-slice-aggregate-repair-by-2 c = sym (length-take-le _ _ (held (sized (c .before .before)) .checks))
+copy-requires : tie.Need-copy-requires
+copy-requires c κs = let z = sized (c .before .before .before .before .before .before .before .before .before .before) in (omega (arith, z .last), z .frame)
 
-part-repair-by-end : tie.Need-part-repair-by-end
-part-repair-by-end c = omega (arith, held (sized (c .before .before .before)))
-
-slice-aggregate-repair-by-3 : tie.Need-slice-aggregate-repair-by-3
-slice-aggregate-repair-by-3 c = sym (length-take-le _ _ (search needs))
-
--- what repair answered, and the row with what it wrote in front
-abbrev asked : tie.After-repair-by → tie.After-operand-size
-asked c = sized (c .before .before .before .before .before .before)
-
-module _ (c : tie.After-repair-by) where
-  abbrev own : Coded
-  own = start (asked c) .args .own
-
-  told :
-      (c .repair-by .result .changed < told-missing)
-      × ((m : ℕ) → (c .repair-by .result .answer ≡ 0 → m ≡ c .repair-by .result .changed) → ((c .repair-by .result .answer ≡ 0 → ⊥) → m ≡ told-none) →
-      Slot-row (coded-settings own) (coded-vector own) false (start (asked c) .args .slot)
-      (values-in (coded-settings own) (own .n) (c .repair-by .last .1 .1 .1 .1 .1 .1 .0 ++ drop (asked c .before .vector-size .result) (replicate 256 0))) m)
-  unfolding Slot-row coded-settings coded-vector settings operand-size check-count value-size operand-in
-  told =
-      let z = asked c in
-      let k = start z in
-      let a = k .args in
-      let count = 2 * a .own .t * a .own .w in
-      let few : z .operand-size .result ≡ count = z .operand-size .ensures .0 in
-      let h = held z in
-      let back : header-size + z .operand-size .result - header-size ≡ count = omega arith in
-      let x = take count (drop header-size (a .slot .bytes)) in
-      let x-long : length x ≡ count = length-take-le count _ (omega (arith, length-drop header-size (a .slot .bytes))) in
-      let x-bytes : Bytes x = bytes-take count _ (bytes-drop header-size (a .slot .bytes) (bytes-typed (a .slot .bytes) (z .before .before .before .struct-known .given .1 .0))) in
-      rw (frame-of-taken count (a .slot) (z .before .before .if1 .left))
-      (repaired-row (a .own .n) (a .own .t) (a .own .w) _ _ (a .own .vector) (a .own .checks) x (replicate 256 0) (k .pre .fine)
-      (z .before .vector-size .ensures .0) few (h .vector) (h .checks) x-long x-bytes (k .pre .checked) (omega arith)
-      (zeros-blanks (coded-settings (a .own)) 256 (vector-fits (a .own .n) (a .own .t) (a .own .w) (k .pre .fine))) _ _ _ _ (rw back at (c .repair-by .ensures)))
-
-returns-2 : tie.Need-returns-2
-returns-2 c = told (c .before .before .before) .1 told-none (λ e. absurd (c .if2 .taken e)) (λ e. refl)
-
-cast-told : tie.Need-cast-t26
-cast-told c = let few = told (c .before .before .before .before) .0 in omega arith
-
-returns-3 : tie.Need-returns-3
-returns-3 c = told (c .before .before .before .before) .1 _ (λ e. refl) (λ e. absurd (e (c .before .if2 .left)))
+returns : tie.Need-returns
+unfolding coded-settings settings operand-size check-count value-size operand-in
+returns c =
+    let z = c .before .before .before .before .before .before .before .before .before .before .before .before .before in
+    let a = z .before .before .before .before .before .args in
+    let h = sized z in
+    let few = z .operand-size .ensures .0 in
+    let back : header-size + z .operand-size .result - header-size ≡ z .operand-size .result = omega arith in
+    let part = take (z .operand-size .result) (drop header-size (a .slot .bytes)) in
+    let part-sized : length part ≡ z .operand-size .result = ap (λ (k : ℕ). length (take k (drop header-size (a .slot .bytes)))) (sym back) ∙ part-long z in
+    let written = copied-part (z .operand-size .result) header-size (a .slot .bytes) (a .last-checks .now) _ (h .frame) (h .last) (c .before .before .copy .ensures) in
+    record {
+      long = c .before .before .copy .ensures .long;
+      kept = rw few at (ap (take (z .operand-size .result)) written ∙ front-value part (a .last-checks .now) (z .operand-size .result) part-sized);
+      found = rw few at (rw back at (c .before .before .before .before .before .before .before .by-checks .ensures));
+    }
 
 pub repaired-spec : {M : Type 1} → statement M
 repaired-spec =
     tie.close
     (tie.spec
-    returns
-    vector-size-requires
     operand-size-requires
     (λ c. search needs)
-    array-share-prefix-vector
-    slice-aggregate-repair-by
-    array-share-prefix-own-checks
-    slice-aggregate-repair-by-2
-    (λ c. omega arith)
-    (λ c. omega arith)
-    part-repair-by-end
     (λ c. search needs)
-    slice-aggregate-repair-by-3
-    (λ c κs. tt)
-    returns-2
-    cast-told
-    returns-3)
+    (λ c. search needs)
+    part-by-checks-end
+    (λ c. search needs)
+    slice-aggregate-by-checks
+    by-checks-requires
+    (λ c. sym (frame-long (c .before .before .before .before .before .before .before .before .before .before)))
+    copy-requires
+    (λ c. search needs)
+    (λ c. search needs)
+    returns)
