@@ -14,6 +14,9 @@ use Rattle.record.specs.Record.{Found, Rec, no-frames, found-as, with-refused, 
 use Rattle.record.specs.Refusal.{take-refusal, close-refusal, frame-fault}
 use Rattle.rounds.specs.Exchange.{heard-vector, Table, Closed}
 use Rattle.column.specs.Call.{Call, taking, sending, closing, asking, after-take, After-close, Leads}
+use Rattle.record.specs.View.{view}
+use Rattle.record.specs.declared.Column.{Column}
+use Rattle.column.specs.Entry.{Close-says}
 use Rattle.record.proofs.Refusal.{close-round}
 use Rattle.column.proofs.Frame.{after-take-taken}
 
@@ -147,3 +150,7 @@ close-refused r h = go (close-refusal r) h
     go : (k : ℕ) → (k ≡ 0 → ⊥) → After-close k r r
     go zero d = absurd (d refl)
     go (suc k) d = refl
+
+pub refused-says : (c : Column) (answer : ℕ) → answer ≡ close-refusal (view c) → (answer ≡ 0 → ⊥) → Close-says c answer c
+refused-says c answer e d =
+    record { answered = e; reads = close-refused (view c) (λ z. d (e ∙ z)); done = λ z. absurd (d z); refused = λ z. refl }

@@ -2,6 +2,9 @@
 mod holdings;
 mod sending;
 
+ghost use mathlib.Core.Path.{_≡_};
+ghost use Rattle.record.specs.Refusal.{close-refusal};
+ghost use Rattle.record.specs.View.{view};
 ghost use Rattle.column.specs.Entry.{Open-says, Take-says, Frame-size-says, Send-says, Close-says, Result-says};
 use code::sizes::VALUE_ROOM;
 use record::Column;
@@ -91,22 +94,40 @@ pub fn send(column: Column, buffer: &mut [u8]) -> u32
     0
 }
 
-// Closes the round, and the next opens with the frames that came early: 0, or the refusal 1 to 4, 6 or 7.
-pub fn close(mut column: Column) -> Outcome
+// The record when its round is closed: the next opens with the frames that came early.
+pub fn closed(column: Column) -> Column
+    requires { ⌜ close-refusal (view column) ≡ 0 ⌝ }
+    ensures { λ r. ⌜ Close-says column 0 r ⌝ }
+{
+    let found = closing::found_after(column);
+    let who = column.who;
+    let slots = column.early;
+    let early = slots::no_slots();
+    let refused = column.refused;
+    Column {
+        who,
+        slots,
+        early,
+        found,
+        round: column.round + 1,
+        refused,
+    }
+}
+
+// Closes the round: 0, or the refusal 1 to 4, 6 or 7.
+pub fn close(column: Column) -> Outcome
     ensures { λ r. ⌜ Close-says column (r .answer) (r .column) ⌝ }
 {
     let who = column.who;
     let answer = refusals::close_refusal(who, column.round);
-    if answer == 0 {
-        let found = closing::found_after(column);
-        let early = column.early;
-        let empty = slots::no_slots();
-        column.found = found;
-        column.slots = early;
-        column.early = empty;
-        column.round = column.round + 1;
+    if answer != 0 {
+        return Outcome { answer, column };
     }
-    Outcome { answer, column }
+    let next = closed(column);
+    Outcome {
+        answer: 0,
+        column: next,
+    }
 }
 
 // The values and confidences that the column ended with, and what rounds two and three told of each sender, zeros behind them: 0, or
