@@ -39,12 +39,20 @@ static size_t used(void (*call)(void)) {
     return ROOM - kept;
 }
 
-static void line(const char *name, void (*call)(void)) { printf("| %s | %zu |\n", name, used(call)); }
+/* Of a call that needs more than a record, how many of them fit in. */
+static void line(const char *name, void (*call)(void)) {
+    size_t bytes = used(call), records = bytes / sizeof column;
+    printf("| %s | %zu |", name, bytes);
+    if (records == 0)
+        puts(" |");
+    else
+        printf(" %zu record%s and %zu bytes |\n", records, records == 1 ? "" : "s", bytes % sizeof column);
+}
 
 int main(void) {
     memset(vector, 9, sizeof vector);
     printf("Greatest stack use in bytes, n = 31, t = 10, w = 8, a record of %zu bytes passed by value:\n\n", sizeof column);
-    puts("| Call | Bytes |\n|---|---|");
+    puts("| Call | Bytes | In records |\n|---|---|---|");
     line("open", open_call);
     column = outcome.column;
     memcpy(frame, (uint8_t[]){0x11, 2, 0, 7}, 4);

@@ -6,6 +6,8 @@ mod archive;
 mod cases;
 #[path = "../../models/chance.rs"]
 mod chance;
+#[path = "../clock.rs"]
+mod clock;
 #[path = "../../models/linear.rs"]
 mod linear;
 #[path = "../../models/register.rs"]
@@ -14,6 +16,7 @@ mod timing;
 
 use cases::{Input, REPAIRS};
 use chance::Chance;
+use clock::warm_up;
 use timing::{IN_A_ROW, Program, ROUNDS, assert_alike, print_table};
 
 const RANDOM: usize = 40_000;
@@ -57,6 +60,7 @@ fn repair_before(i: &Input, output: &mut [u8]) -> Before {
 }
 
 fn main() {
+    warm_up();
     let programs = [
         Program {
             name: "before",

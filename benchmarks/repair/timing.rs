@@ -6,6 +6,7 @@
 
 use crate::cases::{Case, Input};
 use crate::chance::Chance;
+use crate::clock::median;
 use std::hint::black_box;
 use std::time::Instant;
 
@@ -45,11 +46,6 @@ pub fn assert_alike(programs: &[Program], input: &Input) -> Answer {
         );
     }
     answers[0].0
-}
-
-fn median(mut times: Vec<f64>) -> f64 {
-    times.sort_by(f64::total_cmp);
-    times[times.len() / 2]
 }
 
 /// Microseconds of one call, for each case and program.

@@ -39,3 +39,15 @@ c_program() { # SOURCE OUTPUT OPTION..
     shift 2
     gcc -std=c11 -O2 -g -Wall -Wextra -Werror -Iinclude "$@" -o "$output" "$source" target/staticlib/libsajowemi.a
 }
+
+stored_lines() { # LINES PAGE: whether every line of a table that was printed stands in the page, in order and with nothing between
+    python3 - "$1" "$2" <<'PYTHON'
+import itertools, sys
+printed, page = (open(name).read().split("\n") for name in sys.argv[1:])
+text = "\n".join(page) + "\n"
+for is_table, lines in itertools.groupby(printed, lambda line: line.startswith("|")):
+    table = "\n".join(lines) + "\n"
+    if is_table and table not in text:
+        sys.exit(f"{sys.argv[2]} does not have this table as it is printed:\n{table}")
+PYTHON
+}
