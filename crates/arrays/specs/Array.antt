@@ -30,7 +30,3 @@ pub record Written (at many : ℕ) (f : ℕ → ℕ) (bytes bytes-now : List ℕ
   pub new : (p : ℕ) → p < many → getD bytes-now (at + p) 0 ≡ f p
   pub before : (i : ℕ) → i < at → getD bytes-now i 0 ≡ getD bytes i 0
   pub after : (i : ℕ) → at + many ≤ i → getD bytes-now i 0 ≡ getD bytes i 0
-
--- the bytes that the machine moves in one step
-abbrev pub one-step : ℕ
-one-step = 8

@@ -2,20 +2,22 @@
 ghost use mathlib.Core.Path.{_≡_};
 ghost use Prim.Native.Nat.{_+_, _*_, _≤_, _<_};
 ghost use lib.ListN.{length, getD};
-ghost use Rattle.arrays.specs.Array.{one-step, Written, all-zero};
+ghost use Rattle.arrays.specs.Array.{Written, all-zero};
 
-// The width that is worth a step of its own: a machine word.
-const ONE_STEP: usize = 8;
+// The widths that the machine moves in one step: a word, and half a word, which is a height.
+const WORD: usize = 8;
 
-// So many bytes as the machine moves at once.
-fn copy_step(to: &mut [u8], at: usize, from: &[u8], start: usize)
-    requires { ⌜ (at + one-step ≤ length (now to)) × (start + one-step ≤ length (now from)) ⌝ }
-    ensures { λ _. ⌜ Written at one-step (λ p. getD (now (from .entry)) (start + p) 0) (now (to .entry)) (now (to .exit)) ⌝ }
+const HALF_WORD: usize = 4;
+
+// Byte after byte, which compiles to one step where the caller names the number.
+fn copy_bytes(to: &mut [u8], at: usize, from: &[u8], start: usize, many: usize)
+    requires { ⌜ (at + many ≤ length (now to)) × (start + many ≤ length (now from)) ⌝ }
+    ensures { λ _. ⌜ Written at many (λ p. getD (now (from .entry)) (start + p) 0) (now (to .entry)) (now (to .exit)) ⌝ }
 {
-    let mut i = 0;
-    while i < ONE_STEP {
-        to[at + i] = from[start + i];
-        i += 1;
+    let mut p = 0;
+    while p < many {
+        to[at + p] = from[start + p];
+        p += 1;
     }
 }
 
@@ -24,15 +26,15 @@ pub fn copy(to: &mut [u8], at: usize, from: &[u8], start: usize, many: usize)
     requires { ⌜ (at + many ≤ length (now to)) × (start + many ≤ length (now from)) ⌝ }
     ensures { λ _. ⌜ Written at many (λ p. getD (now (from .entry)) (start + p) 0) (now (to .entry)) (now (to .exit)) ⌝ }
 {
-    if many == ONE_STEP {
-        copy_step(to, at, from, start);
+    if many == WORD {
+        copy_bytes(to, at, from, start, WORD);
         return;
     }
-    let mut p = 0;
-    while p < many {
-        to[at + p] = from[start + p];
-        p += 1;
+    if many == HALF_WORD {
+        copy_bytes(to, at, from, start, HALF_WORD);
+        return;
     }
+    copy_bytes(to, at, from, start, many);
 }
 
 // Byte p of each of so many rows, which are `width` bytes each, goes to the front of another array.

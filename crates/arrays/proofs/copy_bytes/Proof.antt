@@ -1,18 +1,18 @@
--- `copy_step` meets its contract. Assumes nothing.
+-- `copy_bytes` meets its contract: each turn writes one more. Assumes nothing.
 use mathlib.Core.Path.{_≡_, refl}
 use Prim.Native.Nat.{_+_, _-_, _≤_}
 use native.Mathlib.Omega.{arith}
 use lib.ListN.{getD}
-use Rattle.arrays.specs.Array.{one-step, Written}
+use Rattle.arrays.specs.Array.{Written}
 use Rattle.arrays.proofs.Written.{written-none, written-more, written-to}
-use Rattle.arrays.proofs.copy_step.Statement.{statement}
-use Rattle.arrays.proofs.copy_step.Tie as tie
+use Rattle.arrays.proofs.copy_bytes.Statement.{statement}
+use Rattle.arrays.proofs.copy_bytes.Tie as tie
 
 abbrev Inv-loop : tie.InvT-loop
-Inv-loop to₀ at from start i₀ to i = (i ≤ one-step) × Written at i (λ q. getD from (start + q) 0) to₀ to
+Inv-loop to₀ at from start many p₀ to p = (p ≤ many) × Written at p (λ q. getD from (start + q) 0) to₀ to
 
 abbrev μ-loop : tie.MeasureT-loop
-μ-loop to₀ at from start i₀ to i = one-step - i
+μ-loop to₀ at from start many p₀ to p = many - p
 
 loop-holds : tie.Need-loop-holds Inv-loop μ-loop
 loop-holds c = (omega arith, written-none _ _ _)
@@ -24,10 +24,10 @@ same-length : tie.Need-same-length Inv-loop μ-loop
 same-length c = c .before .loop .inv .1 .long
 
 returns : tie.Need-returns Inv-loop μ-loop
-returns c = written-to (let e : c .before .loop .i ≡ one-step = omega arith in e) (c .before .loop .inv .1)
+returns c = written-to (let e : c .before .loop .p ≡ _ = omega arith in e) (c .before .loop .inv .1)
 
-pub copy-step-spec : {M : Type 1} → statement M
-copy-step-spec =
+pub copy-bytes-spec : {M : Type 1} → statement M
+copy-bytes-spec =
     tie.close
     (tie.spec
     Inv-loop
