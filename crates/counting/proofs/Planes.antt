@@ -25,6 +25,16 @@ use Rattle.counting.specs.Steps.Table.{Planes, byte-in, value-in, row-in
 use Rattle.grading.proofs.Value.{entries-length, entries-of, entries-alike}
 use Rattle.counting.proofs.Placed.{cut-entries}
 
+-- a value's bytes
+module _ (w : ℕ) (x : Planes) (i k : ℕ) where
+  pub value-long : length (value-in w x i k) ≡ w
+  unfolding value-in
+  value-long = entries-length w 0 _
+
+  pub value-byte : (p : ℕ) → p < w → getD (value-in w x i k) p 0 ≡ byte-in x p i k
+  unfolding value-in
+  value-byte p h = entries-of w p _ 0 h
+
 module _ (n w : ℕ) (x : Planes) where
   pub rows-length : length (rows-in n w x) ≡ n
   unfolding rows-in

@@ -13,11 +13,11 @@ use Rattle.code.specs.Settings.{Settings, settings, value-size}
 use Rattle.grading.specs.Value.{Value, Rows, blank, is-blank}
 use Rattle.grading.specs.Held.{Held, held-as}
 use Rattle.grading.specs.Count.{found, most, agreed-least, sure-least, likely-least, agreed-at, held-of, held-at}
-use Rattle.grading.proofs.Value.{blank-size, entries-length}
+use Rattle.grading.proofs.Value.{blank-size}
 use Rattle.grading.proofs.Most.{most-is}
 use Rattle.counting.specs.Steps.Table.{Planes, value-in, rows-in}
 use Rattle.counting.specs.Steps.Tally.{best-in, Settled, confidence-by}
-use Rattle.counting.proofs.Planes.{rows-length, value-at}
+use Rattle.counting.proofs.Planes.{value-long, rows-length, value-at}
 use Rattle.counting.proofs.Settling.{counted-filled, counted-some}
 
 -- a blank of a value's size
@@ -36,15 +36,11 @@ module _ (n t w : ℕ) (x : Planes) (k : ℕ) (inside : k < n) where
   abbrev m : Value
   m = best-in n w x k
 
-  pub value-long : (i : ℕ) → length (value-in w x i k) ≡ w
-  unfolding value-in
-  value-long i = entries-length w 0 _
-
   best-long : length m ≡ w
   unfolding best-in settings value-size
   best-long =
       most-is (λ v. length v ≡ w) (settings 0 0 w) k rows (blank-size (settings 0 0 w))
-      (λ i h. (let l : i < n = rw (rows-length n w x) at h in rw (value-at n w x i k l inside) (value-long i)))
+      (λ i h. (let l : i < n = rw (rows-length n w x) at h in rw (value-at n w x i k l inside) (value-long w x i k)))
 
   -- Y
   agreed-as : agreed-at s rows k ≡ cond (leb (n - t) (found k m rows)) m (replicate w 0)

@@ -1,20 +1,14 @@
--- Values, vectors and what a column ends with as arrays of a program, byte for byte. Assumes nothing: these are definitions.
+-- Vectors and what a column ends with as arrays of a program, byte for byte. Assumes nothing: these are definitions.
 use mathlib.Core.Path.{_≡_}
 use mathlib.Core.List.{List}
 use Prim.Native.Nat.{ℕ}
-use lib.ListN.{take}
 use Rattle.arrays.specs.Array.{padded}
 use Rattle.code.specs.Settings.{Settings}
-use Rattle.code.specs.Size.{most-columns, value-room, vector-room}
+use Rattle.code.specs.Size.{most-columns, vector-room}
 use Rattle.code.specs.Vector.{glued}
 use Rattle.code.specs.Entry.{values-in}
-use Rattle.grading.specs.Value.{Value, Vector}
+use Rattle.grading.specs.Value.{Vector}
 use Rattle.grading.specs.Held.{Held, held-in, held-values, held-confidences}
-
--- a value of w bytes as an array: its bytes from the front on, every other byte 0; read again, it is the value
-pub record Stores-value (w : ℕ) (v : Value) (array : List ℕ) : Type 0 where
-  pub bytes : array ≡ padded value-room v
-  pub reads : take w array ≡ v
 
 -- a vector as an array: its values one after the other from the front on, every other byte 0; read again, it is the vector
 pub record Stores (s : Settings) (vs : Vector) (array : List ℕ) : Type 0 where

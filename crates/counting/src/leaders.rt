@@ -12,7 +12,6 @@ ghost use Rattle.counting.specs.Steps.Tally.{leading, Weighed, All-weigh
 use crate::found;
 use crate::table;
 use crate::table::Table;
-use crate::values;
 use code::sizes::MOST_COLUMNS;
 
 // Whether the value of row c, found so often, goes before the one that leads column k. Counts decide first, since they need no bytes.
@@ -23,15 +22,13 @@ fn overtakes(table: &Table, w: usize, k: usize, c: usize, count: u8, row: usize,
     if count < times {
         return false;
     }
-    let value = table::value_at(table, w, c, k);
-    if values::is_blank(value, w) {
+    if table::is_blank(table, w, c, k) {
         return false;
     }
     if times < count {
         return true;
     }
-    let best = table::value_at(table, w, row, k);
-    values::is_before(value, best, w)
+    table::is_before(table, w, c, row, k)
 }
 
 // Whether a column is still live after a value that is found so often: 0 where no other value can be found `least` times.

@@ -4,5 +4,4 @@ mod found;
 mod leaders;
 pub mod table;
 pub mod tally;
-mod values;
 pub mod vector;

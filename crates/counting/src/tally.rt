@@ -10,9 +10,7 @@ ghost use Rattle.grading.specs.Count.{agreed-vector, held-list};
 ghost use Rattle.counting.specs.Steps.Table.{value-in, rows-in};
 ghost use Rattle.counting.specs.Steps.Tally.{confidence-by};
 use crate::leaders;
-use crate::table;
 use crate::table::Table;
-use crate::vector;
 use code::sizes::MOST_COLUMNS;
 use code::sizes::VECTOR_ROOM;
 
@@ -21,8 +19,13 @@ fn put_from_row(vector: &mut [u8; VECTOR_ROOM], table: &Table, w: usize, row: u8
     requires { ⌜ (w ≤ value-room) × (row < most-columns) × (k < most-columns) × (length (now vector) ≡ vector-room) ⌝ }
     ensures { λ _. ⌜ Written (k * w) w (λ p. getD (value-in w (now (table .entry)) row k) p 0) (now (vector .entry)) (now (vector .exit)) ⌝ }
 {
-    let value = table::value_at(table, w, row as usize, k);
-    vector::put_value(vector, k, &value[..w]);
+    let i = row as usize;
+    let at = k * w;
+    let mut p = 0;
+    while p < w {
+        vector[at + p] = table[p][i][k];
+        p += 1;
+    }
 }
 
 // Y: of each column the value found at least n - t times, else blank.

@@ -9,8 +9,9 @@ use Rattle.code.proofs.ValidSettings.{values-fit}
 use Rattle.grading.specs.Count.{agreed-at, agreed-vector}
 use Rattle.counting.specs.Steps.Table.{rows-in}
 use Rattle.counting.specs.Steps.Tally.{All-settled}
+use Rattle.counting.proofs.Planes.{value-long}
 use Rattle.counting.proofs.Placed.{Placed, placed-none, placed-next, placed-zeros, placed-stores}
-use Rattle.counting.proofs.Tallied.{value-long, agreed-often, agreed-seldom}
+use Rattle.counting.proofs.Tallied.{agreed-often, agreed-seldom}
 use Rattle.counting.proofs.tally.agreed.Statement.{statement}
 use Rattle.counting.proofs.tally.agreed.Tie as tie
 
@@ -41,7 +42,7 @@ loop-again c =
       ⊎-elim
           (λ w.
           rw (w .3)
-          (placed-next (a .w) (l .k) _ _ _ _ (l .inv .2) (value-long (a .n) (a .t) (a .w) (now (a .table)) (l .k) h _)
+          (placed-next (a .w) (l .k) _ _ _ _ (l .inv .2) (value-long (a .w) (now (a .table)) _ (l .k))
           (agreed-often (a .n) (a .t) (a .w) (now (a .table)) (l .k) h _ _ settled (omega arith) (omega (arith, w .0 .taken))) (w .2 .ensures)))
           (λ w.
           rw (w .1)

@@ -14,8 +14,9 @@ use Rattle.grading.specs.Count.{held-at, held-list}
 use Rattle.counting.specs.Steps.Table.{rows-in}
 use Rattle.counting.specs.Steps.Tally.{All-settled}
 use Rattle.counting.proofs.Stored.{padded-entry}
+use Rattle.counting.proofs.Planes.{value-long}
 use Rattle.counting.proofs.Placed.{Placed, placed-none, placed-next, placed-zeros, placed-held}
-use Rattle.counting.proofs.Tallied.{value-long, held-value, held-blank, held-confidence}
+use Rattle.counting.proofs.Tallied.{held-value, held-blank, held-confidence}
 use Rattle.counting.proofs.tally.held.Statement.{statement}
 use Rattle.counting.proofs.tally.held.Tie as tie
 
@@ -48,7 +49,7 @@ loop-again c =
       ⊎-elim
           (λ w.
           rw (w .3)
-          (placed-next (a .w) (l .k) _ _ _ _ (l .inv .2) (value-long (a .n) (a .t) (a .w) (now (a .table)) (l .k) h _)
+          (placed-next (a .w) (l .k) _ _ _ _ (l .inv .2) (value-long (a .w) (now (a .table)) _ (l .k))
           (held-value (a .n) (a .t) (a .w) (now (a .table)) (l .k) h _ _ settled (omega (arith, w .0 .taken))) (w .2 .ensures)))
           (λ w.
           rw (w .1)
