@@ -2,7 +2,7 @@
 -- it leaves in front of a row of zeros is the repaired vector, or, where there is none, the zeros, which are blanks; and what it tells is
 -- the places changed, or the mark. Assumes nothing.
 use mathlib.Core.Path.{_≡_, refl, sym, _∙_, ap, ap₂, subst}
-use mathlib.Core.Bool.{Bool, true, false}
+use mathlib.Core.Bool.{Bool, true, false, not}
 use mathlib.Core.List.{List, _∷_, _++_, append-assoc}
 use mathlib.Core.Logic.{inl, inr}
 use mathlib.Core.Option.{some}
@@ -14,6 +14,7 @@ use lib.ListN.{length, take, drop, replicate, length-drop, take-append-drop}
 use lib.Seq.{length-take-le}
 use borrow.Author.Tests.{eq-eqb, ne-eqb, le-ltb}
 use Rattle.arrays.specs.Array.{in-front}
+use Rattle.arrays.proofs.Bool.{true-not-false}
 use Rattle.code.specs.Settings.{Settings, settings, settings-refusal, check-count, value-size}
 use Rattle.code.specs.Vector.{is-vector, are-checks, has-checks, cut, glued}
 use Rattle.code.specs.Entry.{values-in}
@@ -26,7 +27,7 @@ use Rattle.repair.specs.Again.{Again-says}
 use Rattle.repair.specs.Promise.{By-own-checks}
 use Rattle.repair.specs.declared.RepairAnswer.{RepairAnswer}
 use Rattle.repair.proofs.Difference.ByOwnChecks.{by-own-checks}
-use Rattle.grading.specs.Value.{blank, blanks}
+use Rattle.grading.specs.Value.{Vector, blank, blanks}
 use Rattle.grading.proofs.Value.{take-replicate}
 use Rattle.counting.proofs.Placed.{cut-at}
 use Rattle.record.specs.Frame.{checks-in}
@@ -166,9 +167,10 @@ module _ (n t w size count : ℕ) (vector own x row : List ℕ) (fine : settings
   pub repaired-again :
       (ls : List ℕ) (last a : RepairAnswer) (again : Bool) (z : List ℕ) →
       Again-says n t w (take size vector) (take count own) ls x last again a (take size row) z →
-      Repaired-again s (values-in s n vector) x ls last again a (z ++ drop size row)
+      Repaired-again s (values-in s n vector) x ls last again a row (z ++ drop size row)
   unfolding Again-says Repaired-again told-of settings check-count value-size
-  repaired-again ls last a true z says = (sym (same-equal ls x (says .0)), says .1)
+  repaired-again ls last a true z says =
+      (sym (same-equal ls x (says .0)), says .1, ap (λ (bs : List ℕ). bs ++ drop size row) (says .2) ∙ take-append-drop size row)
   repaired-again ls last a false z says =
       let found = repaired-row (a .answer) (a .changed) (a .tried) z (says .1) in (found .0, found .1 (told-of a) places mark)
     where
@@ -177,3 +179,11 @@ module _ (n t w size count : ℕ) (vector own x row : List ℕ) (fine : settings
 
       mark : (a .answer ≡ 0 → ⊥) → told-of a ≡ told-none
       mark f = rw (ne-eqb (a .answer) 0 f) refl
+
+-- the last answer again: the checks are the last ones, and the array is as it was
+pub again-same :
+    (s : Settings) (vs : Vector) (x ls : List ℕ) (last : RepairAnswer) (again : Bool) (a : RepairAnswer) (row now : List ℕ) → not again ≡ false →
+    Repaired-again s vs x ls last again a row now → (x ≡ ls) × (now ≡ row)
+unfolding Repaired-again
+again-same s vs x ls last true a row now e r = (r .0, r .2)
+again-same s vs x ls last false a row now e r = true-not-false e

@@ -45,12 +45,12 @@ pub record Last-row (s : Settings) (vs : Vector) (x : List ℕ) (a : RepairAnswe
 
 -- the row by the checks that came is the last one from then on
 pub next-row :
-    (s : Settings) (vs : Vector) (x checks : List ℕ) (last a : RepairAnswer) (planes now : List (List ℕ)) (row : List ℕ) (again : Bool) →
-    s .n * value-size s ≤ length row → Last-row s vs checks last planes → Repaired-again s vs x checks last again a row →
+    (s : Settings) (vs : Vector) (x checks : List ℕ) (last a : RepairAnswer) (planes now : List (List ℕ)) (old row : List ℕ) (again : Bool) →
+    s .n * value-size s ≤ length row → Last-row s vs checks last planes → Repaired-again s vs x checks last again a old row →
     Planes-next again (s .n) (value-size s) planes row now → Last-row s vs x a now
 unfolding Repaired-again Planes-next values-in
-next-row s vs x checks last a planes now row true long memo r p = rw (r .0, r .1, p) memo
-next-row s vs x checks last a planes now row false long memo r p = record { bytes = row; long = long; few = r .0; row = r .1; held = p }
+next-row s vs x checks last a planes now old row true long memo r p = rw (r .0, r .1, p) memo
+next-row s vs x checks last a planes now old row false long memo r p = record { bytes = row; long = long; few = r .0; row = r .1; held = p }
 
 -- the own checks give the own row, with no place changed
 own-row :
@@ -135,11 +135,11 @@ module _ (own : Coded) (slots : List Slot) (old : List ℕ) (i : ℕ) (table : P
 
   -- a frame: the row that its checks give
   pub put-taken :
-      (checks-now row : List ℕ) (a : RepairAnswer) (again : Bool) (now : List (List ℕ)) (table-now : Planes) → (getD slots i slot-past .taken ≡ 0 → ⊥) →
-      own .n * own .w ≤ length row → own .w ≤ value-room → Slot-repaired s (coded-vector own) (getD slots i slot-past) checks checks-now last again a row →
+      (checks-now empty row : List ℕ) (a : RepairAnswer) (again : Bool) (now : List (List ℕ)) (table-now : Planes) → (getD slots i slot-past .taken ≡ 0 → ⊥) →
+      own .n * own .w ≤ length row → own .w ≤ value-room → Slot-repaired s (coded-vector own) (getD slots i slot-past) checks checks-now last again a empty row →
       Planes-next again (own .n) (own .w) planes row now → Row-put i now table table-now → Put own slots old (i + 1) table-now (set told i (told-of a)) now checks-now a
   unfolding Slot-row coded-settings settings value-size values-in
-  put-taken checks-now row a again now table-now came long few r p into =
+  put-taken checks-now empty row a again now table-now came long few r p into =
       record {
         shape = into .shape;
         told-long = length-set told i (told-of a) ∙ put .told-long;
@@ -161,7 +161,7 @@ module _ (own : Coded) (slots : List Slot) (old : List ℕ) (i : ℕ) (table : P
       }
     where
       memo : Last-row s (coded-vector own) (take (checks-size s) (operand-in (getD slots i slot-past .bytes))) a now
-      memo = next-row s (coded-vector own) _ (take (checks-size s) checks) last a planes now row again long (put .memo) (r .found) p
+      memo = next-row s (coded-vector own) _ (take (checks-size s) checks) last a planes now empty row again long (put .memo) (r .found) p
 
 -- the own row goes in last
 pub put-own :

@@ -72,7 +72,7 @@ fn told_by(answer: RepairAnswer) -> u8
 }
 
 // The row of a sender by the checks that came, written over blanks, which "none" leaves. The checks of the last repair have its answer
-// again.
+// again, and leave the row alone.
 fn by_checks(
     n: u32,
     t: u32,
@@ -86,7 +86,7 @@ fn by_checks(
 ) -> Again
     requires { ⌜ Coded-right (coded n t w (now vector) (now own)) × (length (now vector) ≡ vector-room) × (length (now own) ≡ checks-room) ⌝ }
     requires { ⌜ (length (now checks) ≡ checks-size (settings n t w)) × (length (now row) ≡ vector-room) × (values-in (settings n t w) n (now row) ≡ blanks (settings n t w)) ⌝ }
-    ensures { λ r. ⌜ Repaired-again (settings n t w) (values-in (settings n t w) n (now (vector .entry))) (now (checks .entry)) (now («last_checks» .entry)) last (r .again) (r .answer) (now (row .exit)) ⌝ }
+    ensures { λ r. ⌜ Repaired-again (settings n t w) (values-in (settings n t w) n (now (vector .entry))) (now (checks .entry)) (now («last_checks» .entry)) last (r .again) (r .answer) (now (row .entry)) (now (row .exit)) ⌝ }
 {
     let size = record::vector_size(n, w);
     let count = frames::operand_size(t, w, 2);
@@ -117,7 +117,7 @@ fn repaired(
 ) -> Again
     requires { ⌜ Coded-right (coded n t w (now vector) (now own)) × (length (now vector) ≡ vector-room) × (length (now own) ≡ checks-room) ⌝ }
     requires { ⌜ (length (now «last_checks») ≡ checks-room) × (length (now row) ≡ vector-room) × (values-in (settings n t w) n (now row) ≡ blanks (settings n t w)) ⌝ }
-    ensures { λ r. ⌜ Slot-repaired (settings n t w) (values-in (settings n t w) n (now (vector .entry))) slot (now («last_checks» .entry)) (now («last_checks» .exit)) last (r .again) (r .answer) (now (row .exit)) ⌝ }
+    ensures { λ r. ⌜ Slot-repaired (settings n t w) (values-in (settings n t w) n (now (vector .entry))) slot (now («last_checks» .entry)) (now («last_checks» .exit)) last (r .again) (r .answer) (now (row .entry)) (now (row .exit)) ⌝ }
 {
     let count = frames::operand_size(t, w, 2);
     let end = HEADER + count;
@@ -133,7 +133,9 @@ fn repaired(
         last,
         row,
     );
-    arrays::copy(last_checks, 0, &frame, HEADER, count);
+    if !now.again {
+        arrays::copy(last_checks, 0, &frame, HEADER, count);
+    }
     now
 }
 
@@ -158,13 +160,13 @@ pub fn put_table(
     let mut planes = mine;
     let mut checks = own.checks;
     let mut last = repair::untried(0);
+    let mut row = [0u8; VECTOR_ROOM];
     let mut i = 0;
     while i < n {
         let slot = slots[i];
         if slot.taken == 0 {
             told[i] = TOLD_MISSING;
         } else {
-            let mut row = [0u8; VECTOR_ROOM];
             let now = repaired(
                 own.n,
                 own.t,
@@ -178,6 +180,7 @@ pub fn put_table(
             );
             if !now.again {
                 planes = filling::planes_of(&row, n, w);
+                row = [0u8; VECTOR_ROOM];
             }
             last = now.answer;
             filling::put_planes(table, i, &planes);

@@ -53,17 +53,18 @@ told-of a = cond (eqb (a .answer) 0) (a .changed) told-none
 abbrev pub checks-size : Settings → ℕ
 checks-size s = check-count s * value-size s
 
--- the row by the checks x: the last answer again where they are the last ones, else the row as an array, and what it tells
-unfoldable pub Repaired-again : Settings → (own : Vector) → (x last-checks : List ℕ) → (last : RepairAnswer) → (again : Bool) → RepairAnswer → (row : List ℕ) → Type 0
-Repaired-again s vs x ls last true a row = (x ≡ ls) × (a ≡ last)
-Repaired-again s vs x ls last false a row = (a .changed < told-missing) × Row s vs (some x) (values-in s (s .n) row) (told-of a)
+-- the row by the checks x: the last answer again where they are the last ones, and the array as it was; else the row in the array, and
+-- what it tells
+unfoldable pub Repaired-again : Settings → (own : Vector) → (x last-checks : List ℕ) → (last : RepairAnswer) → (again : Bool) → RepairAnswer → (row row-now : List ℕ) → Type 0
+Repaired-again s vs x ls last true a row now = (x ≡ ls) × (a ≡ last) × (now ≡ row)
+Repaired-again s vs x ls last false a row now = (a .changed < told-missing) × Row s vs (some x) (values-in s (s .n) now) (told-of a)
 
 -- the same of a slot's frame, where the checks stand in front of an array, and its checks come there
-pub record Slot-repaired (s : Settings) (vs : Vector) (x : Slot) (ls ls-now : List ℕ) (last : RepairAnswer) (again : Bool) (a : RepairAnswer) (row : List ℕ) :
+pub record Slot-repaired (s : Settings) (vs : Vector) (x : Slot) (ls ls-now : List ℕ) (last : RepairAnswer) (again : Bool) (a : RepairAnswer) (row row-now : List ℕ) :
     Type 0 where
   pub long : length ls-now ≡ length ls
   pub kept : take (checks-size s) ls-now ≡ take (checks-size s) (operand-in (x .bytes))
-  pub found : Repaired-again s vs (take (checks-size s) (operand-in (x .bytes))) (take (checks-size s) ls) last again a row
+  pub found : Repaired-again s vs (take (checks-size s) (operand-in (x .bytes))) (take (checks-size s) ls) last again a row row-now
 
 -- the planes that stood, or those of the row lent
 unfoldable pub Planes-next : (again : Bool) → (n w : ℕ) → (planes : List (List ℕ)) → (row : List ℕ) → (planes-now : List (List ℕ)) → Type 0

@@ -3,26 +3,36 @@
 use mathlib.Core.Path.{_≡_, refl, sym, _∙_, ap}
 use mathlib.Core.Bool.{Bool, true, false, not}
 use mathlib.Core.Logic.{⊎-elim}
-use Prim.Native.Nat.{_*_, _-_, _≤_, _<_}
+use Prim.Native.Nat.{ℕ, _+_, _*_, _-_, _≤_, _<_}
 use native.Mathlib.Omega.{arith}
-use lib.ListN.{length, getD, take, set, length-set}
+use mathlib.Core.List.{List}
+use lib.ListN.{length, getD, take, set, replicate, length-set}
 use borrow.Author.Needs.{needs}
 use Rattle.code.specs.Settings.{settings, value-size}
+use Rattle.code.specs.Size.{vector-room}
+use Rattle.code.specs.Entry.{values-in}
 use Rattle.code.proofs.ValidSettings.{Sizes, sizes}
+use Rattle.grading.specs.Value.{blanks}
 use Rattle.record.specs.Frame.{operand-in}
 use Rattle.record.specs.declared.Slot.{Slot}
 use Rattle.rounds.specs.Steps.Senders.{coded-settings, coded-vector, checks-size, Planes-next, slot-past}
-use Rattle.rounds.proofs.SenderRow.{vector-fits, zeros-blanks}
+use Rattle.rounds.specs.declared.senders.Coded.{Coded}
+use Rattle.rounds.proofs.SenderRow.{vector-fits, zeros-blanks, again-same}
 use Rattle.rounds.proofs.TableRows.{Last-row, next-row, Put, put-as, put-none, put-missing, put-taken, put-own}
 use Rattle.rounds.proofs.senders.put_table.Statement.{statement}
 use Rattle.rounds.proofs.senders.put_table.Tie as tie
 
+-- the array that a row is written to is blanks before each slot
+record Empty-row (own : Coded) (row : List ℕ) : Type 0 where
+  long : length row ≡ vector-room
+  blank : values-in (coded-settings own) (own .n) row ≡ blanks (coded-settings own)
+
 abbrev Inv-loop : tie.InvT-loop
-Inv-loop own number table₀ told₀ slots n w vector own-checks mine planes₀ checks₀ last₀ i₀ table told planes checks last i =
-    (i ≤ own .n) × Put own slots told₀ i table told planes checks last
+Inv-loop own number table₀ told₀ slots n w vector own-checks mine planes₀ checks₀ last₀ row₀ i₀ table told planes checks last row i =
+    (i ≤ own .n) × Put own slots told₀ i table told planes checks last × Empty-row own row
 
 abbrev μ-loop : tie.MeasureT-loop
-μ-loop own number table₀ told₀ slots n w vector own-checks mine planes₀ checks₀ last₀ i₀ table told planes checks last i = n - i
+μ-loop own number table₀ told₀ slots n w vector own-checks mine planes₀ checks₀ last₀ row₀ i₀ table told planes checks last row i = n - i
 
 -- the settings are within bounds, and a vector has room in its array
 few : (c : tie.Start Inv-loop μ-loop) → Sizes (coded-settings (c .args .own))
@@ -31,6 +41,10 @@ few c = sizes _ (c .pre .0 .0 .fine)
 small : (c : tie.Start Inv-loop μ-loop) → c .args .own .n * c .args .own .w ≤ 256
 unfolding coded-settings
 small c = vector-fits (c .args .own .n) (c .args .own .t) (c .args .own .w) (c .pre .0 .0 .fine)
+
+no-row : (c : tie.Start Inv-loop μ-loop) → Empty-row (c .args .own) (replicate vector-room 0)
+unfolding coded-settings settings value-size
+no-row c = record { long = refl; blank = zeros-blanks (coded-settings (c .args .own)) vector-room (small c) }
 
 cast-n : tie.Need-cast-n Inv-loop μ-loop
 unfolding coded-settings settings
@@ -58,6 +72,7 @@ loop-holds c =
       omega arith,
       put-none (a .own) (a .t3) (a .told .now) (a .table .now) _ _ (k .pre .0 .0) (omega (arith, small k)) (search needs) (k .pre .1 .0) (k .pre .1 .1)
           (c .before .before .planes-of .ensures) (c .untried .ensures .0) (c .untried .ensures .1),
+      no-row k,
     )
 
 abbrev start : tie.At-loop Inv-loop μ-loop → tie.Start Inv-loop μ-loop
@@ -100,11 +115,11 @@ repaired-requires c κs =
     let at = c .before .before .before .before .before .before .before .before in
     let k = start at in (
       (k .pre .0 .0, vector-long (at .before .before .before .before), own-long (at .before .before .before .before .before)),
-      (at .loop .inv .1 .checks-long, refl, zeros-blanks (coded-settings (k .args .own)) 256 (small k)),
+      (at .loop .inv .1 .checks-long, at .loop .inv .2 .long, at .loop .inv .2 .blank),
     )
 
 row-long : (c : tie.After-repaired Inv-loop μ-loop) → length (c .repaired .last .1 .1 .1 .1 .1 .1 .1 .1 .0) ≡ 256
-row-long c = c .repaired .kept .1 .1 .1 .1 .1 .1 .1 .1 .0
+row-long c = c .repaired .kept .1 .1 .1 .1 .1 .1 .1 .1 .0 ∙ c .before .before .before .before .before .before .before .before .before .loop .inv .2 .long
 
 planes-of-requires-2 : tie.Need-planes-of-requires-2 Inv-loop μ-loop
 unfolding coded-settings settings
@@ -146,7 +161,18 @@ found c =
     let at = c .before .before .before .before .before .before .before .before .before .before .before .before .before in
     let long = row-long r in
     let own = start at .args .own in
-    next-row (coded-settings own) (coded-vector own) _ _ _ _ _ _ (r .repaired .last .1 .1 .1 .1 .1 .1 .1 .1 .0) _ (omega (arith, small (start at))) (at .loop .inv .1 .memo) (r .repaired .ensures .found) (planes-next c)
+    next-row (coded-settings own) (coded-vector own) _ _ _ _ _ _ _ (r .repaired .last .1 .1 .1 .1 .1 .1 .1 .1 .0) _ (omega (arith, small (start at))) (at .loop .inv .1 .memo) (r .repaired .ensures .found) (planes-next c)
+
+-- the array is blanks again, or still
+row-next :
+    (c : tie.Joined2 Inv-loop μ-loop) →
+    (let at = c .before .before .before .before .before .before .before .before .before .before .before .before .before in
+    Empty-row (start at .args .own) (c .if2 .row))
+unfolding coded-settings settings value-size
+row-next c =
+    let at = c .before .before .before .before .before .before .before .before .before .before .before .before .before in
+    ⊎-elim (λ w. rw (w .4) (no-row (start at)))
+    (λ w. rw (w .2, again-same _ _ _ _ _ _ _ _ _ (w .0 .left) (c .before .before .before .before .repaired .ensures .found) .1) (at .loop .inv .2)) (c .if2 .came)
 
 put-planes-requires : tie.Need-put-planes-requires Inv-loop μ-loop
 put-planes-requires c κs =
@@ -171,16 +197,19 @@ loop-again c =
     let l = at .loop in
     let inside : l .i < a .own .n = omega arith in
     let put = l .inv .1 in
-    let place = room at inside in (
-      omega arith,
-      ⊎-elim
-          (λ w. put-as (w .1) (w .2) (w .3) (w .4) (w .5) (put-missing _ _ _ _ _ _ _ _ _ put inside place (w .0 .taken)))
-          (λ w.
-          put-as (w .15) (w .16 ∙ ap (set (l .told) (l .i)) (w .14 .ensures)) (w .17) (w .18) (w .19)
-          (put-taken _ _ _ _ _ _ _ _ _ put inside place _ _ _ _ _ _ (w .0 .left) (omega (arith, small k, w .5 .kept .1 .1 .1 .1 .1 .1 .1 .1 .0)) (few k .few-bytes) (w .5 .ensures)
-          (planes-next (record { before = record { before = record { before = record { before = record { before = record { before = record { before = record { before = record { before = record { before = c .before; if1 = w .0 }; vector3 = w .1 }; own-checks2 = w .2 }; checks2 = w .3 }; row = w .4 }; repaired = w .5 }; checks3 = w .6 }; row2 = w .7 }; struct-known4 = w .8 }; if2 = w .9 })) (w .13 .ensures)))
-          (c .if1 .came),
-    )
+    let place = room at inside in
+    let next : Put (a .own) (a .t3) (a .told .now) (l .i + 1) (c .if1 .table) (c .if1 .told) (c .if1 .planes) (c .if1 .checks) (c .if1 .last) × Empty-row (a .own) (c .if1 .row) =
+    ⊎-elim
+    (λ w. (put-as (w .1) (w .2) (w .3) (w .4) (w .5) (put-missing _ _ _ _ _ _ _ _ _ put inside place (w .0 .taken)), rw (w .6) (l .inv .2)))
+    (λ w.
+    (let joined : tie.Joined2 Inv-loop μ-loop =
+    record { before = record { before = record { before = record { before = record { before = record { before = record { before = record { before = record { before = record { before = c .before; if1 = w .0 }; vector3 = w .1 }; own-checks2 = w .2 }; checks2 = w .3 }; row = w .4 }; repaired = w .5 }; checks3 = w .6 }; row2 = w .7 }; struct-known4 = w .8 }; if2 = w .9 } in (
+      put-as (w .15) (w .16 ∙ ap (set (l .told) (l .i)) (w .14 .ensures)) (w .17) (w .18) (w .19)
+          (put-taken _ _ _ _ _ _ _ _ _ put inside place _ _ _ _ _ _ _ (w .0 .left) (omega (arith, small k, row-long (joined .before .before .before .before))) (few k .few-bytes)
+          (w .5 .ensures) (planes-next joined) (w .13 .ensures)),
+      rw (w .20) (row-next joined),
+    )))
+    (c .if1 .came) in (omega arith, next .0, next .1)
 
 sub-put-planes : tie.Need-sub-put-planes Inv-loop μ-loop
 sub-put-planes c = start (c .before .before) .pre .0 .1
@@ -231,7 +260,7 @@ put-table-spec =
     slice-aggregate-repaired
     slice-aggregate-repaired-2
     slice-aggregate-repaired-3
-    (λ c. refl)
+    (λ c. sym (c .before .before .before .before .before .before .before .before .loop .inv .2 .long))
     repaired-requires
     (λ c. sym (row-long (c .before .before .before .before .before)))
     planes-of-requires-2

@@ -1,6 +1,6 @@
--- `repaired` meets its contract: the part of the frame behind its header goes to repair, and to the front of the last checks.
--- Assumes nothing.
-use mathlib.Core.Path.{_≡_, sym, _∙_, ap}
+-- `repaired` meets its contract: the part of the frame behind its header goes to repair, and to the front of the last checks, where it
+-- stands already if they are the same. Assumes nothing.
+use mathlib.Core.Path.{_≡_, refl, sym, _∙_, ap}
 use Prim.Native.Nat.{ℕ, _+_, _-_, _≤_}
 use native.Mathlib.Omega.{arith}
 use lib.ListN.{length, take, drop, length-drop}
@@ -8,9 +8,11 @@ use lib.Seq.{length-take-le}
 use borrow.Author.Needs.{needs}
 use Rattle.arrays.proofs.Front.{copied-part, front-value}
 use Rattle.code.specs.Settings.{settings, check-count, value-size}
+use Rattle.code.specs.Entry.{values-in}
 use Rattle.code.proofs.ValidSettings.{sizes}
 use Rattle.record.specs.Frame.{header-size, operand-size, operand-in}
-use Rattle.rounds.specs.Steps.Senders.{coded-settings}
+use Rattle.rounds.specs.Steps.Senders.{coded-settings, checks-size, Repaired-again}
+use Rattle.rounds.proofs.SenderRow.{again-same}
 use Rattle.rounds.proofs.senders.repaired.Statement.{statement}
 use Rattle.rounds.proofs.senders.repaired.Tie as tie
 
@@ -51,24 +53,46 @@ by-checks-requires c κs =
     (k .pre .0, (part-long z ∙ z .operand-size .ensures .0, k .pre .1 .1, k .pre .1 .2))
 
 copy-requires : tie.Need-copy-requires
-copy-requires c κs = let z = sized (c .before .before .before .before .before .before .before .before .before .before) in (omega (arith, z .last), z .frame)
+copy-requires c κs = let z = sized (c .before .before .before .before .before .before .before .before .before .before .before .before) in (omega (arith, z .last), z .frame)
+
+-- what repair found, with the sizes that the contract names
+found :
+    (c : tie.After-by-checks) →
+    (let z = c .before .before .before .before .before .before in
+    let a = z .before .before .before .before .before .args in
+    let s = settings (a .n) (a .t) (a .w) in
+    let x = take (checks-size s) (operand-in (a .slot .bytes)) in
+    Repaired-again s (values-in s (a .n) (a .vector .now)) x (take (checks-size s) (a .last-checks .now)) (a .last) (c .by-checks .result .again)
+    (c .by-checks .result .answer) (a .row .now) (c .by-checks .last .1 .1 .1 .1 .1 .1 .1 .1 .0))
+unfolding settings operand-size check-count value-size operand-in
+found c =
+    let z = c .before .before .before .before .before .before in
+    let back : header-size + z .operand-size .result - header-size ≡ z .operand-size .result = omega arith in
+    rw (z .operand-size .ensures .0) at (rw back at (c .by-checks .ensures))
 
 returns : tie.Need-returns
 unfolding coded-settings settings operand-size check-count value-size operand-in
 returns c =
-    let z = c .before .before .before .before .before .before .before .before .before .before .before .before .before in
+    let by = c .before .before .before .before .before .before .before .before .before in
+    let z = by .before .before .before .before .before .before in
     let a = z .before .before .before .before .before .args in
     let h = sized z in
     let few = z .operand-size .ensures .0 in
     let back : header-size + z .operand-size .result - header-size ≡ z .operand-size .result = omega arith in
     let part = take (z .operand-size .result) (drop header-size (a .slot .bytes)) in
     let part-sized : length part ≡ z .operand-size .result = ap (λ (k : ℕ). length (take k (drop header-size (a .slot .bytes)))) (sym back) ∙ part-long z in
-    let written = copied-part (z .operand-size .result) header-size (a .slot .bytes) (a .last-checks .now) _ (h .frame) (h .last) (c .before .before .copy .ensures) in
+    let copied = c .before .before .copy in
+    let written = copied-part (z .operand-size .result) header-size (a .slot .bytes) (a .last-checks .now) _ (h .frame) (h .last) (copied .ensures) in
     record {
-      long = c .before .before .copy .ensures .long;
+      long = copied .ensures .long;
       kept = rw few at (ap (take (z .operand-size .result)) written ∙ front-value part (a .last-checks .now) (z .operand-size .result) part-sized);
-      found = rw few at (rw back at (c .before .before .before .before .before .before .before .by-checks .ensures));
+      found = found by;
     }
+
+returns-2 : tie.Need-returns-2
+returns-2 c =
+    let f = found (c .before .before .before .before) in
+    record { long = refl; kept = sym (again-same _ _ _ _ _ _ _ _ _ (c .if1 .left) f .0); found = f }
 
 pub repaired-spec : {M : Type 1} → statement M
 repaired-spec =
@@ -82,8 +106,11 @@ repaired-spec =
     (λ c. search needs)
     slice-aggregate-by-checks
     by-checks-requires
-    (λ c. sym (frame-long (c .before .before .before .before .before .before .before .before .before .before)))
+    (λ c. sym (frame-long (c .before .before .before .before .before .before .before .before .before .before .before .before)))
     copy-requires
     (λ c. search needs)
     (λ c. search needs)
-    returns)
+    returns
+    (λ c. search needs)
+    (λ c. search needs)
+    returns-2)
