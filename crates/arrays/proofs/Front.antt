@@ -82,6 +82,9 @@ pub front-value : (new old : List ℕ) (k : ℕ) → length new ≡ k → take k
 unfolding in-front
 front-value new old k e = take-at new _ k e
 
+pub front-at : (many : ℕ) (new old : List ℕ) (i : ℕ) → length new ≡ many → i < many → getD (in-front new old) i 0 ≡ getD new i 0
+front-at many new old i e h = sym (getD-take many (in-front new old) i 0 h) ∙ ap (λ (bs : List ℕ). getD bs i 0) (front-value new old many e)
+
 -- bytes that leave no rest
 pub front-whole : (new old : List ℕ) → length old ≤ length new → in-front new old ≡ new
 unfolding in-front

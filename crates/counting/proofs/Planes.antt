@@ -1,6 +1,6 @@
--- Tables as arrays: the values, rows and columns that they hold, entry by entry; a row's bytes plane by plane; and a row put in plane by
--- plane, which changes that row of every plane, and nothing else. Assumes nothing.
-use mathlib.Core.Path.{_≡_, refl, sym, _∙_, ap}
+-- Tables as arrays: the values, rows and columns that they hold, entry by entry; and a row put in plane by plane, which changes that row
+-- of these planes, and nothing else. Assumes nothing.
+use mathlib.Core.Path.{_≡_, refl, sym, _∙_, ap, subst}
 use mathlib.Core.Bool.{Bool, true, false, cond}
 use mathlib.Core.List.{List, [], _∷_}
 use Prim.Native.Nat.{ℕ, _+_, _*_, _≤_, _<_}
@@ -12,16 +12,15 @@ use lib.ListN.{length, getD, drop, set, replicate, length-set, getD-replicate}
 use lib.Seq.{drop-cons, drop-length, getD-set-same, getD-set-other}
 use borrow.Author.Count.{below-more}
 use borrow.Author.Tests.{eqb-true, eqb-false}
-use Rattle.arrays.specs.Array.{padded, Written}
+use Rattle.arrays.specs.Array.{in-front, Written}
 use Rattle.arrays.proofs.Written.{written-as}
-use Rattle.arrays.proofs.Front.{written-front}
-use Rattle.arrays.proofs.Padded.{padded-at, padded-length}
+use Rattle.arrays.proofs.Front.{written-front, front-at}
 use Rattle.code.specs.Size.{most-columns, value-room}
 use Rattle.code.specs.Vector.{plane, same, cut}
 use Rattle.code.proofs.Vectors.Cut.{plane-cut, plane-cut-length}
-use Rattle.grading.specs.Value.{Value, Vector, Rows}
+use Rattle.grading.specs.Value.{Value, Rows}
 use Rattle.grading.specs.Count.{found, next-best, most-from}
-use Rattle.counting.specs.Steps.Table.{Planes, byte-in, value-in, row-in, rows-in, Shaped, Row-planes, Row-put}
+use Rattle.counting.specs.Steps.Table.{Planes, byte-in, value-in, row-in, rows-in, Shaped, row-plane, written-plane, Row-put}
 use Rattle.grading.proofs.Value.{entries-length, entries-of, entries-alike}
 use Rattle.counting.proofs.Placed.{cut-entries}
 
@@ -108,77 +107,31 @@ module _ (x : Planes) (p i : ℕ) (row : List ℕ) (p-in : p < length x) (i-in :
       bytes q j h l true e true f = rw (eqb-true q p e, eqb-true j i f, row-new) long
       bytes q j h l false e true f = rw (plane-kept q (eqb-false q p e)) (s .bytes q j h l)
 
--- a byte of each value, gathered into zeros
+-- a byte of each value, gathered into a row
 pub plane-gathered :
-    (n w p : ℕ) (row now : List ℕ) → n ≤ most-columns → p < w → Written 0 n (λ k. getD row (w * k + p) 0) (replicate most-columns 0) now →
-    now ≡ padded most-columns (plane p (cut n w row))
-unfolding padded
-plane-gathered n w p row now h l g =
-    written-front n (plane p (cut n w row)) (replicate most-columns 0) now (plane-cut-length p n w row) h
+    (n w p : ℕ) (row old now : List ℕ) → n ≤ length old → p < w → Written 0 n (λ k. getD row (w * k + p) 0) old now →
+    now ≡ in-front (plane p (cut n w row)) old
+plane-gathered n w p row old now h l g =
+    written-front n (plane p (cut n w row)) old now (plane-cut-length p n w row) h
     (written-as (λ k m. ap (λ (i : ℕ). getD row (i + p) 0) (mul-comm w k) ∙ sym (plane-cut n w p row k m l)) g)
 
--- a row's planes, one after the other
-abbrev pub zero-row : List ℕ
-zero-row = replicate most-columns 0
-
-module _ (vs : Vector) where
-  pub row-planes-none : Row-planes 0 vs (replicate value-room (replicate most-columns 0))
-  row-planes-none =
-      record {
-        long = refl;
-        bytes = λ p h. ap length (zeros p h);
-        filled = λ p h. absurd (omega arith);
-        empty = λ p _ h. zeros p h;
-      }
-    where
-      zeros : (p : ℕ) → p < value-room → getD (replicate value-room zero-row) p [] ≡ zero-row
-      zeros p h = getD-replicate {A = List ℕ} value-room p zero-row [] h
-
-  pub row-planes-more :
-      (p : ℕ) (bytes : List ℕ) (planes : List (List ℕ)) → Row-planes p vs planes → p < value-room → length (plane p vs) ≤ most-columns →
-      bytes ≡ padded most-columns (plane p vs) → Row-planes (p + 1) vs (set planes p bytes)
-  row-planes-more p bytes planes a h few e =
-      record {
-        long = length-set planes p bytes ∙ a .long;
-        bytes = λ q l. wide q l (eqb q p) refl;
-        filled = below-more (λ q. getD (set planes p bytes) q [] ≡ padded most-columns (plane q vs)) p
-            (λ q l. kept q (omega arith) ∙ a .filled q l) (here ∙ e);
-        empty = λ q g l. kept q (omega arith) ∙ a .empty q (omega arith) l;
-      }
-    where
-      here : getD (set planes p bytes) p [] ≡ bytes
-      here = getD-set-same planes p bytes [] (rw (a .long) h)
-
-      kept : (q : ℕ) → (q ≡ p → ⊥) → getD (set planes p bytes) q [] ≡ getD planes q []
-      kept q d = getD-set-other planes p q bytes [] d
-
-      wide : (q : ℕ) → q < value-room → (b : Bool) → eqb q p ≡ b → length (getD (set planes p bytes) q []) ≡ most-columns
-      wide q l true f = rw (eqb-true q p f, here, e) (padded-length most-columns (plane p vs) few)
-      wide q l false f = rw (kept q (eqb-false q p f)) (a .bytes q l)
-
--- a row put in, plane by plane: so many planes have it
-pub record Row-put-below (i many : ℕ) (planes : List (List ℕ)) (x x-now : Planes) : Type 0 where
-  pub shape : Shaped x-now
-  pub new : (p : ℕ) → p < many → getD (getD x-now p []) i [] ≡ getD planes p []
-  pub rows-kept : (p j : ℕ) → (j ≡ i → ⊥) → getD (getD x-now p []) j [] ≡ getD (getD x p []) j []
-
-module _ (i : ℕ) (planes : List (List ℕ)) (x : Planes) where
-  pub row-put-none : Shaped x → Row-put-below i 0 planes x x
-  row-put-none s = record { shape = s; new = λ p h. absurd (omega arith); rows-kept = λ p j d. refl }
+-- a row put in, plane by plane
+module _ (i : ℕ) (f : ℕ → List ℕ) (x : Planes) where
+  pub row-put-none : Shaped x → Row-put 0 i f x x
+  row-put-none s = record { shape = s; new = λ p h. absurd (omega arith); planes-kept = λ p h. refl; rows-kept = λ p j d. refl }
 
   pub row-put-more :
-      (p : ℕ) (now : Planes) → Row-put-below i p planes x now → p < value-room → i < most-columns → length (getD planes p []) ≡ most-columns →
-      Row-put-below i (p + 1) planes x (set now p (set (getD now p []) i (getD planes p [])))
-  row-put-more p now a h l long =
+      (p : ℕ) (bytes : List ℕ) (now : Planes) → Row-put p i f x now → p < value-room → i < most-columns → length bytes ≡ most-columns → bytes ≡ f p →
+      Row-put (p + 1) i f x (set now p (set (getD now p []) i bytes))
+  unfolding row-plane
+  row-put-more p bytes now a h l long e =
       record {
         shape = shape-put now p i bytes p-in i-in long (a .shape);
-        new = below-more (λ q. getD (getD z q []) i [] ≡ getD planes q []) p passed (row-new now p i bytes p-in i-in);
+        new = below-more (λ q. getD (getD z q []) i [] ≡ f q) p passed (row-new now p i bytes p-in i-in ∙ e);
+        planes-kept = λ q g. plane-kept now p i bytes p-in i-in q (omega arith) ∙ a .planes-kept q (omega arith);
         rows-kept = λ q j d. row-kept now p i bytes p-in i-in q j d ∙ a .rows-kept q j d;
       }
     where
-      bytes : List ℕ
-      bytes = getD planes p []
-
       z : Planes
       z = set now p (set (getD now p []) i bytes)
 
@@ -188,27 +141,37 @@ module _ (i : ℕ) (planes : List (List ℕ)) (x : Planes) where
       i-in : i < length (getD now p [])
       i-in = rw (a .shape .rows p h) l
 
-      passed : (q : ℕ) → q < p → getD (getD z q []) i [] ≡ getD planes q []
+      passed : (q : ℕ) → q < p → getD (getD z q []) i [] ≡ f q
       passed q d = ap (λ (rows : List (List ℕ)). getD rows i []) (plane-kept now p i bytes p-in i-in q (omega arith)) ∙ a .new q d
 
-  pub row-put-all : (p : ℕ) (now : Planes) → p ≡ value-room → Row-put-below i p planes x now → Row-put i planes x now
-  row-put-all p now e a = record { shape = a .shape; new = λ q h. a .new q (omega arith); rows-kept = a .rows-kept }
+pub row-put-to : {many k i : ℕ} {f : ℕ → List ℕ} {x now : Planes} → many ≡ k → Row-put many i f x now → Row-put k i f x now
+row-put-to {many} {k} {i} {f} {x} {now} e a = subst (λ (m : ℕ). Row-put m i f x now) e a
 
-  module _ (n w : ℕ) (now : Planes) (a : Row-put i planes x now) where
-    pub row-put-row : (row : List ℕ) → Row-planes w (cut n w row) planes → w ≤ value-room → n * w ≤ length row → row-in n w now i ≡ cut n w row
-    unfolding row-in value-in byte-in
-    row-put-row row r few fits =
-        entries-alike n 0 _ _ (λ k l. entries-alike w 0 _ _ (λ p m. byte p k (omega arith) (omega arith))) ∙ sym (cut-entries n w row fits)
-      where
-        byte : (p k : ℕ) → p < w → k < n → getD (getD (getD now p []) i []) k 0 ≡ getD row (k * w + p) 0
-        byte p k h l =
-            ap (λ (bs : List ℕ). getD bs k 0) (a .new p (omega arith) ∙ r .filled p h) ∙ padded-at most-columns _ k ∙ plane-cut n w p row k l h
+module _ (n w i : ℕ) (x now : Planes) where
+  -- it has the values of the row that was written
+  pub row-written : (row : List ℕ) → Row-put w i (written-plane n w row x i) x now → n * w ≤ length row → row-in n w now i ≡ cut n w row
+  unfolding row-in value-in byte-in row-plane written-plane
+  row-written row a fits =
+      entries-alike n 0 _ _ (λ k l. entries-alike w 0 _ _ (λ p m. byte p k (omega arith) (omega arith))) ∙ sym (cut-entries n w row fits)
+    where
+      byte : (p k : ℕ) → p < w → k < n → getD (getD (getD now p []) i []) k 0 ≡ getD row (k * w + p) 0
+      byte p k h l =
+          ap (λ (bs : List ℕ). getD bs k 0) (a .new p h) ∙ front-at n (plane p (cut n w row)) _ k (plane-cut-length p n w row) l ∙ plane-cut n w p row k l h
 
-    pub row-put-others : (j : ℕ) → (j ≡ i → ⊥) → row-in n w now j ≡ row-in n w x j
-    unfolding row-in value-in byte-in
-    row-put-others j d = entries-alike n 0 _ _ (λ k l. entries-alike w 0 _ _ (λ p m. ap (λ (bs : List ℕ). getD bs k 0) (a .rows-kept p j d)))
+  -- or those of the row that was copied
+  pub row-copied : (j : ℕ) → Row-put w i (row-plane x j) x now → row-in n w now i ≡ row-in n w x j
+  unfolding row-in value-in byte-in row-plane
+  row-copied j a =
+      entries-alike n 0 _ _ (λ k l. entries-alike w 0 _ _ (λ p m. ap (λ (bs : List ℕ). getD bs k 0) (a .new p (omega arith))))
+
+  pub row-put-others : (f : ℕ → List ℕ) → Row-put w i f x now → (j : ℕ) → (j ≡ i → ⊥) → row-in n w now j ≡ row-in n w x j
+  unfolding row-in value-in byte-in row-plane
+  row-put-others f a j d = entries-alike n 0 _ _ (λ k l. entries-alike w 0 _ _ (λ p m. ap (λ (bs : List ℕ). getD bs k 0) (a .rows-kept p j d)))
 
 -- a table as it is made
+abbrev pub zero-row : List ℕ
+zero-row = replicate most-columns 0
+
 abbrev pub zero-plane : List (List ℕ)
 zero-plane = replicate most-columns zero-row
 

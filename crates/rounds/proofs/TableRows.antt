@@ -1,9 +1,10 @@
--- The rows of a table as they are put in, one after the other. The checks of the last repair give its row again; a missing frame leaves
--- blanks; the own row goes in last. Assumes nothing.
+-- The rows of a table as they are put in. The own row goes in first, and the own checks give it; after that each slot's row in turn: blanks
+-- for a missing frame, the last repair's row again for its checks, and else the row that repair left. What is put in stays as it is while
+-- later rows are, the last repair's too, which stands behind or is the own one. Assumes nothing.
 use mathlib.Core.Path.{_≡_, refl, sym, _∙_, ap}
 use mathlib.Core.Bool.{Bool, true, false}
 use mathlib.Core.List.{List, [], _∷_}
-use mathlib.Core.Logic.{inl}
+use mathlib.Core.Logic.{_⊎_, inl, inr, ⊎-elim}
 use mathlib.Core.Option.{some}
 use Prim.Native.Nat.{ℕ, zero, suc, _+_, _*_, _-_, _≤_, _<_}
 use native.Mathlib.Omega.{arith}
@@ -12,186 +13,251 @@ use lib.ListN.{length, getD, take, set, replicate, length-set, getD-replicate}
 use lib.Seq.{getD-set-same, getD-set-other, getD-take, length-take-le}
 use borrow.Author.Count.{below-more}
 use borrow.Author.Tests.{eqb-true, eqb-false}
+use Rattle.arrays.proofs.Bool.{true-not-false}
 use Rattle.arrays.proofs.Front.{front-kept}
 use Rattle.arrays.proofs.Zeros.{zeros-at}
 use Rattle.code.specs.Settings.{Settings, settings, settings-refusal, value-size}
-use Rattle.code.specs.Size.{most-columns, value-room, checks-room}
-use Rattle.code.specs.Vector.{is-vector, has-checks, cut}
+use Rattle.code.specs.Size.{most-columns, value-room, vector-room, checks-room}
+use Rattle.code.specs.Vector.{is-vector, has-checks}
 use Rattle.code.specs.Entry.{values-in}
 use Rattle.code.specs.Promise.{Repairs}
 use Rattle.code.proofs.Vectors.Planes.{differ-values-self, repairs}
 use Rattle.grading.specs.Value.{Vector, blank, blanks, entries}
 use Rattle.grading.proofs.Value.{entries-alike}
-use Rattle.counting.specs.Steps.Table.{Planes, Shaped, Row-planes, Row-put, byte-in, value-in, row-in}
-use Rattle.counting.proofs.Planes.{zero-plane, row-put-row, row-put-others}
+use Rattle.counting.specs.Steps.Table.{Planes, Shaped, row-plane, written-plane, Row-put, byte-in, value-in, row-in}
+use Rattle.counting.proofs.Planes.{zero-plane, row-written, row-copied, row-put-others}
 use Rattle.record.specs.Frame.{checks-in, operand-in}
 use Rattle.record.specs.Record.{told-missing}
 use Rattle.record.specs.declared.Slot.{Slot}
 use Rattle.record.proofs.View.{frame-of-empty, frame-of-taken}
 use Rattle.repair.specs.declared.RepairAnswer.{RepairAnswer}
 use Rattle.rounds.specs.Exchange.{Row}
-use Rattle.rounds.specs.Steps.Senders.{coded-settings, coded-vector, Coded-right, Blank-rows, checks-size, told-of, Repaired-again, Slot-repaired, Planes-next, slot-past, Slot-row, Slots-told}
+use Rattle.rounds.specs.Steps.Senders.{coded-settings, coded-vector, Coded-right, Blank-rows, checks-size, told-of, Repaired-again, Slot-repaired, row-of, Last-row, Empty-row, Slot-put, slot-past, Slot-row, Slots-told}
 use Rattle.rounds.specs.declared.senders.Coded.{Coded}
+use Rattle.rounds.specs.declared.senders.Last.{Last}
 use Rattle.rounds.proofs.Rows.{checked-vector}
-use Rattle.rounds.proofs.SenderRow.{cut-sized}
+use Rattle.rounds.proofs.SenderRow.{cut-sized, zeros-blanks}
 
--- the answer that the last repair gave by the checks x, and the row, plane by plane
-pub record Last-row (s : Settings) (vs : Vector) (x : List ℕ) (a : RepairAnswer) (planes : List (List ℕ)) : Type 0 where
-  pub bytes : List ℕ
-  pub long : s .n * value-size s ≤ length bytes
-  pub few : a .changed < told-missing
-  pub row : Row s vs (some x) (values-in s (s .n) bytes) (told-of a)
-  pub held : Row-planes (value-size s) (values-in s (s .n) bytes) planes
-
--- the row by the checks that came is the last one from then on
-pub next-row :
-    (s : Settings) (vs : Vector) (x checks : List ℕ) (last a : RepairAnswer) (planes now : List (List ℕ)) (old row : List ℕ) (again : Bool) →
-    s .n * value-size s ≤ length row → Last-row s vs checks last planes → Repaired-again s vs x checks last again a old row →
-    Planes-next again (s .n) (value-size s) planes row now → Last-row s vs x a now
-unfolding Repaired-again Planes-next values-in
-next-row s vs x checks last a planes now old row true long memo r p = rw (r .0, r .1, p) memo
-next-row s vs x checks last a planes now old row false long memo r p = record { bytes = row; long = long; few = r .0; row = r .1; held = p }
+-- an array of zeros is one for a row of blanks
+pub zeros-empty : (s : Settings) → s .n * value-size s ≤ vector-room → Empty-row s (replicate vector-room 0)
+zeros-empty s h = record { long = refl; blank = zeros-blanks s vector-room h }
 
 -- the own checks give the own row, with no place changed
-own-row :
+own-checked :
     (s : Settings) (vs : Vector) (x : List ℕ) → settings-refusal s ≡ 0 → is-vector s vs ≡ true → has-checks s vs (checks-in s x) ≡ true →
     Row s vs (some x) vs 0
 unfolding Row Repairs
-own-row s vs x fine v e =
+own-checked s vs x fine v e =
     let none = differ-values-self vs in
     let repair = repairs s vs vs (checks-in s x) fine v v e (omega arith) in
     inl (checks-in s x, repair .0, sym (repair .1 ∙ none))
 
--- what is put in so far: the first rows and what they tell, blanks ahead, and the last repair
-pub record Put (own : Coded) (slots : List Slot) (old : List ℕ) (i : ℕ) (table : Planes) (told : List ℕ) (planes : List (List ℕ)) (checks : List ℕ)
-    (last : RepairAnswer) : Type 0 where
-  pub shape : Shaped table
+-- one slot
+module _ (s : Settings) (vs : Vector) (slot : Slot) (i : ℕ) (checks : List ℕ) (last : Last) (row : List ℕ) (x : Planes) (memo : Last-row s vs checks last x)
+    (empty : Empty-row s row) where
+  abbrev came : List ℕ
+  came = take (checks-size s) (operand-in (slot .bytes))
+
+  abbrev with : RepairAnswer → (at told : ℕ) → Last
+  with a at told = record { answer = a; at = at; told = told }
+
+  -- a missing frame: the row is blanks already
+  pub slot-missing :
+      slot .taken ≡ 0 → Shaped x → row-of s x i ≡ blanks s →
+      Slot-put s vs slot i checks last (with (last .answer) (last .at) told-missing) row x x
+  unfolding Slot-row Row
+  slot-missing e shape blank =
+      record {
+        shape = shape;
+        here = rw (frame-of-empty (checks-size s) slot e) (blank, refl);
+        others = λ j d. refl;
+        memo = record { long = memo .long; few = memo .few; row = memo .row };
+        at = inl refl;
+        empty = empty;
+      }
+
+  -- a frame: what repair says by its checks
+  module _ (checks-now : List ℕ) (a : RepairAnswer) (row-now : List ℕ) (x-now : Planes) (taken : slot .taken ≡ 0 → ⊥) where
+    frame-row : (told : ℕ) → Row s vs (some came) (row-of s x-now i) told → Slot-row s vs false slot (row-of s x-now i) told
+    unfolding Slot-row
+    frame-row told r = rw (frame-of-taken (checks-size s) slot taken) r
+
+    -- the places changed are few
+    pub slot-few : (again : Bool) → Slot-repaired s vs slot checks checks-now (last .answer) again a row row-now → a .changed < told-missing
+    unfolding Repaired-again
+    slot-few true r = rw (r .found .1) (memo .few)
+    slot-few false r = r .found .0
+
+    -- the last answer again, and its row
+    pub slot-again :
+        (again : Bool) → again ≡ true → Slot-repaired s vs slot checks checks-now (last .answer) again a row row-now → (last .at ≡ i → ⊥) →
+        Row-put (value-size s) i (row-plane x (last .at)) x x-now → Slot-put s vs slot i checks-now last (with a (last .at) (told-of a)) row-now x x-now
+    unfolding Repaired-again
+    slot-again false e r apart put = true-not-false (sym e)
+    slot-again true e r apart put =
+        record {
+          shape = put .shape;
+          here = frame-row (told-of a) (rw (row-copied (s .n) (value-size s) i x x-now (last .at) put, same .0, same .1) (memo .row));
+          others = others;
+          memo =
+              record {
+                long = r .long ∙ memo .long;
+                few = rw (same .1) (memo .few);
+                row = rw (r .kept, others (last .at) apart, same .0, same .1) (memo .row);
+              };
+          at = inl refl;
+          empty = rw (same .2) empty;
+        }
+      where
+        same : (came ≡ take (checks-size s) checks) × (a ≡ last .answer) × (row-now ≡ row)
+        same = r .found
+
+        others : (j : ℕ) → (j ≡ i → ⊥) → row-of s x-now j ≡ row-of s x j
+        others = row-put-others (s .n) (value-size s) i x x-now _ put
+
+    -- a row that repair left, in an array that is blanks again
+    pub slot-repaired :
+        (again : Bool) → again ≡ false → Slot-repaired s vs slot checks checks-now (last .answer) again a row row-now → (blanked : List ℕ) →
+        Empty-row s blanked → s .n * value-size s ≤ length row-now → Row-put (value-size s) i (written-plane (s .n) (value-size s) row-now x i) x x-now →
+        Slot-put s vs slot i checks-now last (with a i (told-of a)) blanked x x-now
+    unfolding Repaired-again values-in
+    slot-repaired true e r blanked b fits put = true-not-false e
+    slot-repaired false e r blanked b fits put =
+        record {
+          shape = put .shape;
+          here = frame-row (told-of a) found;
+          others = row-put-others (s .n) (value-size s) i x x-now _ put;
+          memo = record { long = r .long ∙ memo .long; few = r .found .0; row = rw (r .kept) found };
+          at = inr refl;
+          empty = b;
+        }
+      where
+        found : Row s vs (some came) (row-of s x-now i) (told-of a)
+        found = rw (row-written (s .n) (value-size s) i x x-now row-now put fits) (r .found .1)
+
+-- what is put in so far: the own row, the first slots' rows and what they tell, blanks ahead, and the last repair, whose row is behind or
+-- the own one
+pub record Put (own : Coded) (number : ℕ) (slots : List Slot) (old : List ℕ) (i : ℕ) (x : Planes) (told checks : List ℕ) (last : Last) (row : List ℕ) : Type 0 where
+  pub shape : Shaped x
   pub told-long : length told ≡ length old
+  pub own-row : row-of (coded-settings own) x (number - 1) ≡ coded-vector own
+  pub own-told : getD told (number - 1) 0 ≡ 0
   pub rows :
-      (j : ℕ) → j < i → Slot-row (coded-settings own) (coded-vector own) false (getD slots j slot-past) (row-in (own .n) (own .w) table j) (getD told j 0)
-  pub ahead : (j : ℕ) → i ≤ j → j < own .n → row-in (own .n) (own .w) table j ≡ blanks (coded-settings own)
-  pub told-ahead : (j : ℕ) → i ≤ j → getD told j 0 ≡ getD old j 0
-  pub checks-long : length checks ≡ checks-room
-  pub memo : Last-row (coded-settings own) (coded-vector own) (take (checks-size (coded-settings own)) checks) last planes
+      (j : ℕ) → j < i → (j + 1 ≡ number → ⊥) →
+      Slot-row (coded-settings own) (coded-vector own) false (getD slots j slot-past) (row-of (coded-settings own) x j) (getD told j 0)
+  pub ahead : (j : ℕ) → i ≤ j → j < own .n → (j + 1 ≡ number → ⊥) → row-of (coded-settings own) x j ≡ blanks (coded-settings own)
+  pub told-ahead : (j : ℕ) → own .n ≤ j → getD told j 0 ≡ getD old j 0
+  pub memo : Last-row (coded-settings own) (coded-vector own) checks last x
+  pub at : (last .at < i) ⊎ (last .at + 1 ≡ number)
+  pub empty : Empty-row (coded-settings own) row
 
-pub put-as :
-    {own : Coded} {slots : List Slot} {old : List ℕ} {i : ℕ} {table table-now : Planes} {told told-now : List ℕ} {planes planes-now : List (List ℕ)}
-    {checks checks-now : List ℕ} {last last-now : RepairAnswer} → table-now ≡ table → told-now ≡ told → planes-now ≡ planes → checks-now ≡ checks →
-    last-now ≡ last → Put own slots old i table told planes checks last → Put own slots old i table-now told-now planes-now checks-now last-now
-put-as a b c d e put = rw (a, b, c, d, e) put
-
--- nothing yet: as if the last repair had been by the own checks
-pub put-none :
-    (own : Coded) (slots : List Slot) (old : List ℕ) (table : Planes) (mine : List (List ℕ)) (a : RepairAnswer) → Coded-right own →
-    own .n * own .w ≤ length (own .vector) → length (own .checks) ≡ checks-room → Shaped table → Blank-rows (coded-settings own) table →
-    Row-planes (own .w) (cut (own .n) (own .w) (own .vector)) mine → a .answer ≡ 0 → a .changed ≡ 0 → Put own slots old 0 table old mine (own .checks) a
-unfolding coded-vector coded-settings settings value-size values-in told-of
-put-none own slots old table mine a right long room shape blank held answer changed =
-    record {
-      shape = shape;
-      told-long = refl;
-      rows = λ j h. absurd (omega arith);
-      ahead = λ j h l. blank j l;
-      told-ahead = λ j h. refl;
-      checks-long = room;
-      memo =
-          record {
-            bytes = own .vector;
-            long = long;
-            few = rw changed (omega arith);
-            row =
-                rw (answer, changed)
-                (own-row (coded-settings own) (coded-vector own) (take (checks-size (coded-settings own)) (own .checks)) (right .fine)
-                (checked-vector (coded-settings own) (coded-vector own) _ (right .checked) (cut-sized (coded-settings own) (own .vector) long)) (right .checked));
-            held = held;
-          };
-    }
-
-module _ (own : Coded) (slots : List Slot) (old : List ℕ) (i : ℕ) (table : Planes) (told : List ℕ) (planes : List (List ℕ)) (checks : List ℕ)
-    (last : RepairAnswer) (put : Put own slots old i table told planes checks last) (inside : i < own .n) (room : i < length told) where
+module _ (own : Coded) (number : ℕ) (slots : List Slot) (array : List ℕ) (low : 1 ≤ number) (high : number ≤ own .n) (room : own .n ≤ length array) where
   abbrev s : Settings
   s = coded-settings own
 
-  told-put : (m j : ℕ) → i + 1 ≤ j → getD (set told i m) j 0 ≡ getD old j 0
-  told-put m j h = getD-set-other told i j m 0 (omega arith) ∙ put .told-ahead j (omega arith)
+  -- the array for what is told, where the own row's 0 stands
+  abbrev old : List ℕ
+  old = set array (number - 1) 0
 
-  -- a missing frame: the row is blanks already
-  pub put-missing : getD slots i slot-past .taken ≡ 0 → Put own slots old (i + 1) table (set told i told-missing) planes checks last
-  unfolding Slot-row Row
-  put-missing e =
+  old-long : length old ≡ length array
+  old-long = length-set array (number - 1) 0
+
+  -- the own row alone: as if the last repair had been by the own checks
+  pub put-own :
+      (x x-now : Planes) (row : List ℕ) (last : Last) → Coded-right own → own .n * own .w ≤ length (own .vector) → length (own .checks) ≡ checks-room →
+      Blank-rows s x → Row-put (own .w) (number - 1) (written-plane (own .n) (own .w) (own .vector) x (number - 1)) x x-now →
+      last .answer .answer ≡ 0 → last .answer .changed ≡ 0 → last .at ≡ number - 1 → Empty-row s row →
+      Put own number slots old 0 x-now old (own .checks) last row
+  unfolding coded-vector coded-settings settings value-size values-in told-of
+  put-own x x-now row last right long checks-long blank put answer changed at empty =
       record {
         shape = put .shape;
-        told-long = length-set told i told-missing ∙ put .told-long;
-        rows =
-            below-more
-            (λ j. Slot-row s (coded-vector own) false (getD slots j slot-past) (row-in (own .n) (own .w) table j) (getD (set told i told-missing) j 0)) i
-            (λ j h. rw (getD-set-other told i j told-missing 0 (omega arith)) (put .rows j h))
-            (rw (frame-of-empty (checks-size s) (getD slots i slot-past) e) (put .ahead i (omega arith) inside, getD-set-same told i told-missing 0 room));
-        ahead = λ j h l. put .ahead j (omega arith) l;
-        told-ahead = told-put told-missing;
-        checks-long = put .checks-long;
-        memo = put .memo;
-      }
-
-  -- a frame: the row that its checks give
-  pub put-taken :
-      (checks-now empty row : List ℕ) (a : RepairAnswer) (again : Bool) (now : List (List ℕ)) (table-now : Planes) → (getD slots i slot-past .taken ≡ 0 → ⊥) →
-      own .n * own .w ≤ length row → own .w ≤ value-room → Slot-repaired s (coded-vector own) (getD slots i slot-past) checks checks-now last again a empty row →
-      Planes-next again (own .n) (own .w) planes row now → Row-put i now table table-now → Put own slots old (i + 1) table-now (set told i (told-of a)) now checks-now a
-  unfolding Slot-row coded-settings settings value-size values-in
-  put-taken checks-now empty row a again now table-now came long few r p into =
-      record {
-        shape = into .shape;
-        told-long = length-set told i (told-of a) ∙ put .told-long;
-        rows =
-            below-more
-            (λ j. Slot-row s (coded-vector own) false (getD slots j slot-past) (row-in (own .n) (own .w) table-now j) (getD (set told i (told-of a)) j 0)) i
-            (λ j h.
-            rw (getD-set-other told i j (told-of a) 0 (omega arith), row-put-others i now table (own .n) (own .w) table-now into j (omega arith)) (put .rows j h))
-            (rw (
-              getD-set-same told i (told-of a) 0 room,
-              row-put-row i now table (own .n) (own .w) table-now into (memo .bytes) (memo .held) few (memo .long),
-              frame-of-taken (checks-size s) (getD slots i slot-past) came,
-            )
-            (memo .row));
-        ahead = λ j h l. row-put-others i now table (own .n) (own .w) table-now into j (omega arith) ∙ put .ahead j (omega arith) l;
-        told-ahead = told-put (told-of a);
-        checks-long = r .long ∙ put .checks-long;
-        memo = rw (r .kept) memo;
+        told-long = refl;
+        own-row = mine;
+        own-told = getD-set-same array (number - 1) 0 0 (omega arith);
+        rows = λ j h. absurd (omega arith);
+        ahead = λ j h l d. row-put-others (own .n) (own .w) (number - 1) x x-now _ put j (omega arith) ∙ blank j l;
+        told-ahead = λ j h. refl;
+        memo =
+            record {
+              long = checks-long;
+              few = rw changed (omega arith);
+              row =
+                  rw (at, mine, answer, changed)
+                  (own-checked s (coded-vector own) (take (checks-size s) (own .checks)) (right .fine)
+                  (checked-vector s (coded-vector own) _ (right .checked) (cut-sized s (own .vector) long)) (right .checked));
+            };
+        at = inr (omega arith);
+        empty = empty;
       }
     where
-      memo : Last-row s (coded-vector own) (take (checks-size s) (operand-in (getD slots i slot-past .bytes))) a now
-      memo = next-row s (coded-vector own) _ (take (checks-size s) checks) last a planes now empty row again long (put .memo) (r .found) p
+      mine : row-of s x-now (number - 1) ≡ coded-vector own
+      mine = row-written (own .n) (own .w) (number - 1) x x-now (own .vector) put long
 
--- the own row goes in last
-pub put-own :
-    (own : Coded) (slots : List Slot) (old : List ℕ) (table : Planes) (told : List ℕ) (planes mine : List (List ℕ)) (checks : List ℕ) (last : RepairAnswer)
-    (number : ℕ) (table-now : Planes) → Put own slots old (own .n) table told planes checks last → 1 ≤ number → number ≤ own .n → own .n ≤ length old →
-    own .w ≤ value-room → own .n * own .w ≤ length (own .vector) → Row-planes (own .w) (cut (own .n) (own .w) (own .vector)) mine →
-    Row-put (number - 1) mine table table-now →
-    Slots-told (coded-settings own) (coded-vector own) number slots table-now old (set told (number - 1) 0)
-unfolding Slots-told Slot-row coded-vector coded-settings settings value-size values-in
-put-own own slots old table told planes mine checks last number table-now put low high room few long held into = (
-  take (own .n) (set told (number - 1) 0),
-  record {
-    many = length-take-le (own .n) _ (omega (arith, told-long));
-    each = λ j h. rw (getD-take (own .n) (set told (number - 1) 0) j 0 h) (each j h (eqb (j + 1) number) refl);
-  },
-  front-kept (own .n) old (set told (number - 1) 0) told-long room (λ j h. getD-set-other told (number - 1) j 0 0 (omega arith) ∙ put .told-ahead j h),
-)
-  where
-    told-long : length (set told (number - 1) 0) ≡ length old
-    told-long = length-set told (number - 1) 0 ∙ put .told-long
+  module _ (i : ℕ) (x : Planes) (told checks : List ℕ) (last : Last) (row : List ℕ) (put : Put own number slots old i x told checks last row) where
+    -- the last repair's row is not the one that comes next
+    pub last-apart : (i + 1 ≡ number → ⊥) → last .at ≡ i → ⊥
+    last-apart other e = ⊎-elim (λ h. omega arith) (λ h. other (omega arith)) (put .at)
 
-    each : (j : ℕ) → j < own .n → (q : Bool) → eqb (j + 1) number ≡ q →
-        Slot-row (coded-settings own) (coded-vector own) q (getD slots j slot-past) (row-in (own .n) (own .w) table-now j) (getD (set told (number - 1) 0) j 0)
-    each j h true e =
-        let here : j ≡ number - 1 = omega (arith, eqb-true (j + 1) number e) in
-        rw here
-        (row-put-row (number - 1) mine table (own .n) (own .w) table-now into (own .vector) held few long, getD-set-same told (number - 1) 0 0 (omega (arith, put .told-long)))
-    each j h false e =
-        let other : j ≡ number - 1 → ⊥ = λ f. eqb-false (j + 1) number e (omega arith) in
-        rw (row-put-others (number - 1) mine table (own .n) (own .w) table-now into j other, getD-set-other told (number - 1) j 0 0 other) (put .rows j h)
+    pub last-inside : i ≤ own .n → last .at < own .n
+    last-inside h = ⊎-elim (λ l. omega arith) (λ l. omega arith) (put .at)
+
+    -- the own slot is passed over
+    pub put-passed : i + 1 ≡ number → Put own number slots old (i + 1) x told checks last row
+    put-passed e =
+        record {
+          shape = put .shape;
+          told-long = put .told-long;
+          own-row = put .own-row;
+          own-told = put .own-told;
+          rows = λ j h d. put .rows j (omega arith) d;
+          ahead = λ j h l d. put .ahead j (omega arith) l d;
+          told-ahead = put .told-ahead;
+          memo = put .memo;
+          at = ⊎-elim (λ h. inl (omega arith)) (λ h. inr h) (put .at);
+          empty = put .empty;
+        }
+
+    -- another slot's row
+    pub put-slot :
+        (i + 1 ≡ number → ⊥) → i < own .n → (checks-now : List ℕ) (last-now : Last) (row-now : List ℕ) (x-now : Planes) →
+        Slot-put s (coded-vector own) (getD slots i slot-past) i checks-now last last-now row-now x x-now →
+        Put own number slots old (i + 1) x-now (set told i (last-now .told)) checks-now last-now row-now
+    put-slot other inside checks-now last-now row-now x-now r =
+        record {
+          shape = r .shape;
+          told-long = length-set told i (last-now .told) ∙ put .told-long;
+          own-row = r .others (number - 1) (omega arith) ∙ put .own-row;
+          own-told = getD-set-other told i (number - 1) (last-now .told) 0 (omega arith) ∙ put .own-told;
+          rows =
+              below-more
+              (λ j. ((j + 1 ≡ number → ⊥) → Slot-row s (coded-vector own) false (getD slots j slot-past) (row-of s x-now j) (getD (set told i (last-now .told)) j 0))) i
+              (λ j h d. rw (r .others j (omega arith), getD-set-other told i j (last-now .told) 0 (omega arith)) (put .rows j h d))
+              (λ d. rw (getD-set-same told i (last-now .told) 0 (omega (arith, put .told-long, old-long))) (r .here));
+          ahead = λ j h l d. r .others j (omega arith) ∙ put .ahead j (omega arith) l d;
+          told-ahead = λ j h. getD-set-other told i j (last-now .told) 0 (omega arith) ∙ put .told-ahead j h;
+          memo = r .memo;
+          at = ⊎-elim (λ e. ⊎-elim (λ h. inl (omega arith)) (λ h. inr (omega arith)) (put .at)) (λ e. inl (omega arith)) (r .at);
+          empty = r .empty;
+        }
+
+  -- all slots
+  pub put-all :
+      (x : Planes) (told checks : List ℕ) (last : Last) (row : List ℕ) → Put own number slots old (own .n) x told checks last row →
+      Slots-told s (coded-vector own) number slots x array told
+  unfolding Slots-told Slot-row coded-settings settings
+  put-all x told checks last row put = (
+    take (own .n) told,
+    record {
+      many = length-take-le (own .n) told (omega (arith, put .told-long, old-long));
+      each = λ j h. rw (getD-take (own .n) told j 0 h) (each j h (eqb (j + 1) number) refl);
+    },
+    front-kept (own .n) array told (put .told-long ∙ old-long) room (λ j h. put .told-ahead j h ∙ getD-set-other array (number - 1) j 0 0 (omega arith)),
+  )
+    where
+      each : (j : ℕ) → j < own .n → (q : Bool) → eqb (j + 1) number ≡ q → Slot-row s (coded-vector own) q (getD slots j slot-past) (row-of s x j) (getD told j 0)
+      each j h true e = let here : j ≡ number - 1 = omega (arith, eqb-true (j + 1) number e) in rw here (put .own-row, put .own-told)
+      each j h false e = put .rows j h (eqb-false (j + 1) number e)
 
 -- a table as it is made
 entries-alone : {A : Type 0} (n i : ℕ) (x : A) → entries n i (λ k. x) ≡ replicate n x

@@ -11,7 +11,7 @@ ghost use Rattle.grading.specs.Value.{blanks};
 ghost use Rattle.counting.specs.Steps.Table.{Shaped};
 ghost use Rattle.record.specs.Frame.{checks-in};
 ghost use Rattle.record.specs.Record.{told-missing};
-ghost use Rattle.rounds.specs.Steps.Senders.{coded, coded-settings, coded-vector, Coded-right, checks-size, told-of, Repaired-again, Slot-repaired, Blank-rows, Slots-told};
+ghost use Rattle.rounds.specs.Steps.Senders.{coded, coded-settings, coded-vector, Coded-right, checks-size, told-of, Repaired-again, Slot-repaired, row-of, Last-row, Empty-row, Slot-put, Blank-rows, Slots-told};
 use code::sizes::CHECKS_ROOM;
 use code::sizes::MOST_COLUMNS;
 use code::sizes::VECTOR_ROOM;
@@ -139,8 +139,63 @@ fn repaired(
     now
 }
 
-// The table of a column with this number, put over blanks, which a missing frame leaves; what it tells of each sender goes to the front
-// of an array. The own row goes in last, over what stands there.
+// The last repair: its answer, and the row of the table that it gave; and what the last slot tells.
+pub struct Last {
+    pub answer: RepairAnswer,
+    pub at: usize,
+    pub told: u8,
+}
+
+// Row i of a table, put over blanks, which a missing frame leaves. The checks of the last repair give its row again. The array lent for
+// a row is blanks again after it was written.
+fn put_slot(
+    n: u32,
+    t: u32,
+    w: u32,
+    vector: &[u8],
+    own: &[u8],
+    slot: Slot,
+    i: usize,
+    checks: &mut [u8],
+    last: Last,
+    row: &mut [u8; VECTOR_ROOM],
+    table: &mut Table,
+) -> Last
+    requires { ⌜ Coded-right (coded n t w (now vector) (now own)) × (length (now vector) ≡ vector-room) × (length (now own) ≡ checks-room) ⌝ }
+    requires { ⌜ (i < n) × (last .at < n) × (last .at ≡ i → ⊥) × Last-row (settings n t w) (values-in (settings n t w) n (now vector)) (now checks) last (now table) ⌝ }
+    requires { ⌜ Empty-row (settings n t w) (now row) × Shaped (now table) × (row-of (settings n t w) (now table) i ≡ blanks (settings n t w)) ⌝ }
+    ensures { λ r. ⌜ Slot-put (settings n t w) (values-in (settings n t w) n (now (vector .entry))) slot i (now (checks .exit)) last r (now (row .exit)) (now (table .entry)) (now (table .exit)) ⌝ }
+{
+    let before = last.answer;
+    if slot.taken == 0 {
+        return Last {
+            answer: before,
+            at: last.at,
+            told: TOLD_MISSING,
+        };
+    }
+    let now = repaired(n, t, w, vector, own, slot, checks, before, row);
+    let answer = now.answer;
+    let told = told_by(answer);
+    if now.again {
+        filling::copy_row(table, i, last.at, w as usize);
+        return Last {
+            answer,
+            at: last.at,
+            told,
+        };
+    }
+    filling::put_row(table, i, row, n as usize, w as usize);
+    *row = [0u8; VECTOR_ROOM];
+    Last {
+        answer,
+        at: i,
+        told,
+    }
+}
+
+// The table of a column with this number, put over blanks; what it tells of each sender goes to the front of an array. The own row goes
+// in first: it is what the own checks give.
 pub fn put_table(
     own: Coded,
     number: usize,
@@ -153,41 +208,37 @@ pub fn put_table(
     ensures { λ _. ⌜ Slots-told (coded-settings own) (coded-vector own) number slots (now (table .exit)) (now (told .entry)) (now (told .exit)) ⌝ }
 {
     let n = own.n as usize;
-    let w = own.w as usize;
     let vector = own.vector;
     let own_checks = own.checks;
-    let mine = filling::planes_of(&vector, n, w);
-    let mut planes = mine;
+    filling::put_row(table, number - 1, &vector, n, own.w as usize);
+    told[number - 1] = 0;
+    let answer = repair::untried(0);
+    let mut last = Last {
+        answer,
+        at: number - 1,
+        told: 0,
+    };
     let mut checks = own.checks;
-    let mut last = repair::untried(0);
     let mut row = [0u8; VECTOR_ROOM];
     let mut i = 0;
     while i < n {
-        let slot = slots[i];
-        if slot.taken == 0 {
-            told[i] = TOLD_MISSING;
-        } else {
-            let now = repaired(
+        if i + 1 != number {
+            let slot = slots[i];
+            last = put_slot(
                 own.n,
                 own.t,
                 own.w,
                 &vector,
                 &own_checks,
                 slot,
+                i,
                 &mut checks,
                 last,
                 &mut row,
+                table,
             );
-            if !now.again {
-                planes = filling::planes_of(&row, n, w);
-                row = [0u8; VECTOR_ROOM];
-            }
-            last = now.answer;
-            filling::put_planes(table, i, &planes);
-            told[i] = told_by(last);
+            told[i] = last.told;
         }
         i += 1;
     }
-    filling::put_planes(table, number - 1, &mine);
-    told[number - 1] = 0;
 }

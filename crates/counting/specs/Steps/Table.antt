@@ -3,10 +3,10 @@
 use mathlib.Core.Path.{_≡_}
 use mathlib.Core.List.{List, []}
 use Prim.Native.Nat.{ℕ, _≤_, _<_}
-use lib.ListN.{length, getD, replicate}
-use Rattle.arrays.specs.Array.{padded}
+use lib.ListN.{length, getD}
+use Rattle.arrays.specs.Array.{in-front}
 use Rattle.code.specs.Size.{most-columns, value-room}
-use Rattle.code.specs.Vector.{plane}
+use Rattle.code.specs.Vector.{plane, cut}
 use Rattle.grading.specs.Value.{Value, Vector, Rows, entries}
 
 -- the planes, each with the bytes of its rows
@@ -34,19 +34,17 @@ pub record Shaped (x : Planes) : Type 0 where
   pub rows : (p : ℕ) → p < value-room → length (getD x p []) ≡ most-columns
   pub bytes : (p i : ℕ) → p < value-room → i < most-columns → length (getD (getD x p []) i []) ≡ most-columns
 
--- a byte for each column in every plane of a row
-abbrev pub Row-shaped : List (List ℕ) → Type 0
-Row-shaped planes = (p : ℕ) → p < value-room → length (getD planes p []) ≡ most-columns
+-- the bytes of row i in plane p
+unfoldable pub row-plane : Planes → (i p : ℕ) → List ℕ
+row-plane x i p = getD (getD x p []) i []
 
--- a row of values plane by plane: byte p of each of them with zeros behind, and zeros alone in the planes behind a value's w bytes
-pub record Row-planes (w : ℕ) (vs : Vector) (planes : List (List ℕ)) : Type 0 where
-  pub long : length planes ≡ value-room
-  pub bytes : Row-shaped planes
-  pub filled : (p : ℕ) → p < w → getD planes p [] ≡ padded most-columns (plane p vs)
-  pub empty : (p : ℕ) → w ≤ p → p < value-room → getD planes p [] ≡ replicate most-columns 0
+-- the same when a row of n values of w bytes is written there: byte p of each value, and the bytes behind them as they were
+unfoldable pub written-plane : (n w : ℕ) → (row : List ℕ) → Planes → (i p : ℕ) → List ℕ
+written-plane n w row x i p = in-front (plane p (cut n w row)) (row-plane x i p)
 
--- row i has the planes of a row, and every other row of every plane is kept
-pub record Row-put (i : ℕ) (planes : List (List ℕ)) (x x-now : Planes) : Type 0 where
+-- row i of the first planes is that of f, and every other row and plane is kept
+pub record Row-put (many i : ℕ) (f : ℕ → List ℕ) (x x-now : Planes) : Type 0 where
   pub shape : Shaped x-now
-  pub new : (p : ℕ) → p < value-room → getD (getD x-now p []) i [] ≡ getD planes p []
-  pub rows-kept : (p j : ℕ) → (j ≡ i → ⊥) → getD (getD x-now p []) j [] ≡ getD (getD x p []) j []
+  pub new : (p : ℕ) → p < many → row-plane x-now i p ≡ f p
+  pub planes-kept : (p : ℕ) → many ≤ p → getD x-now p [] ≡ getD x p []
+  pub rows-kept : (p j : ℕ) → (j ≡ i → ⊥) → row-plane x-now j p ≡ row-plane x j p

@@ -2,16 +2,18 @@
 use mathlib.Core.Path.{_≡_}
 use mathlib.Core.Bool.{Bool, true, false, cond}
 use mathlib.Core.List.{List, []}
+use mathlib.Core.Logic.{_⊎_}
 use mathlib.Core.Option.{some}
 use Prim.Native.Nat.{ℕ, _+_, _*_, _<_}
 use lib.Dec.{eqb}
 use lib.ListN.{length, getD, take}
 use Rattle.arrays.specs.Array.{in-front}
 use Rattle.code.specs.Settings.{Settings, settings, settings-refusal, check-count, value-size}
-use Rattle.code.specs.Vector.{has-checks, cut}
+use Rattle.code.specs.Size.{vector-room, checks-room}
+use Rattle.code.specs.Vector.{has-checks}
 use Rattle.code.specs.Entry.{values-in}
 use Rattle.grading.specs.Value.{Vector, blanks}
-use Rattle.counting.specs.Steps.Table.{Planes, row-in, Row-planes}
+use Rattle.counting.specs.Steps.Table.{Planes, Shaped, row-in}
 use Rattle.record.specs.Frame.{checks-in, operand-in}
 use Rattle.record.specs.Record.{told-missing, told-none}
 use Rattle.repair.specs.declared.RepairAnswer.{RepairAnswer}
@@ -19,6 +21,7 @@ use Rattle.rounds.specs.Exchange.{Row}
 use Rattle.record.specs.View.{frame-in}
 use Rattle.record.specs.declared.Slot.{Slot}
 use Rattle.rounds.specs.declared.senders.Coded.{Coded}
+use Rattle.rounds.specs.declared.senders.Last.{Last}
 
 -- a coded vector by its parts
 abbrev pub coded : (n t w : ℕ) → (vector checks : List ℕ) → Coded
@@ -66,14 +69,33 @@ pub record Slot-repaired (s : Settings) (vs : Vector) (x : Slot) (ls ls-now : Li
   pub kept : take (checks-size s) ls-now ≡ take (checks-size s) (operand-in (x .bytes))
   pub found : Repaired-again s vs (take (checks-size s) (operand-in (x .bytes))) (take (checks-size s) ls) last again a row row-now
 
--- the planes that stood, or those of the row lent
-unfoldable pub Planes-next : (again : Bool) → (n w : ℕ) → (planes : List (List ℕ)) → (row : List ℕ) → (planes-now : List (List ℕ)) → Type 0
-Planes-next true n w planes row now = now ≡ planes
-Planes-next false n w planes row now = Row-planes w (cut n w row) now
+-- row i of a table
+abbrev pub row-of : Settings → Planes → (i : ℕ) → Vector
+row-of s x i = row-in (s .n) (value-size s) x i
+
+-- the last repair, by the checks in front of an array: its answer, and the row of the table that it gave
+pub record Last-row (s : Settings) (vs : Vector) (checks : List ℕ) (last : Last) (x : Planes) : Type 0 where
+  pub long : length checks ≡ checks-room
+  pub few : last .answer .changed < told-missing
+  pub row : Row s vs (some (take (checks-size s) checks)) (row-of s x (last .at)) (told-of (last .answer))
+
+-- an array for a row of blanks
+pub record Empty-row (s : Settings) (row : List ℕ) : Type 0 where
+  pub long : length row ≡ vector-room
+  pub blank : values-in s (s .n) row ≡ blanks s
+
+-- a slot's row put into a table as row i, and what it tells: every other row is kept, and the last repair is this one, or the one before
+pub record Slot-put (s : Settings) (vs : Vector) (slot : Slot) (i : ℕ) (checks-now : List ℕ) (last last-now : Last) (row-now : List ℕ) (x x-now : Planes) : Type 0 where
+  pub shape : Shaped x-now
+  pub here : Slot-row s vs false slot (row-of s x-now i) (last-now .told)
+  pub others : (j : ℕ) → (j ≡ i → ⊥) → row-of s x-now j ≡ row-of s x j
+  pub memo : Last-row s vs checks-now last-now x-now
+  pub at : (last-now .at ≡ last .at) ⊎ (last-now .at ≡ i)
+  pub empty : Empty-row s row-now
 
 -- a table whose rows are blanks
 abbrev pub Blank-rows : Settings → Planes → Type 0
-Blank-rows s x = (j : ℕ) → j < s .n → row-in (s .n) (value-size s) x j ≡ blanks s
+Blank-rows s x = (j : ℕ) → j < s .n → row-of s x j ≡ blanks s
 
 -- what stands for a slot past the last
 abbrev pub slot-past : Slot
@@ -82,7 +104,7 @@ slot-past = record { taken = 0; bytes = [] }
 -- a table with the rows of all slots, and what each tells
 pub record Slot-rows (s : Settings) (own : Vector) (number : ℕ) (slots : List Slot) (x : Planes) (told : List ℕ) : Type 0 where
   pub many : length told ≡ s .n
-  pub each : (j : ℕ) → j < s .n → Slot-row s own (eqb (j + 1) number) (getD slots j slot-past) (row-in (s .n) (value-size s) x j) (getD told j 0)
+  pub each : (j : ℕ) → j < s .n → Slot-row s own (eqb (j + 1) number) (getD slots j slot-past) (row-of s x j) (getD told j 0)
 
 -- the same, where what each row tells goes to the front of an array
 unfoldable pub Slots-told : Settings → (own : Vector) → (number : ℕ) → List Slot → Planes → (array array-now : List ℕ) → Type 0
