@@ -32,11 +32,14 @@ use Rattle.locator.proofs.Errors.Explained.{Located}
 use Rattle.locator.proofs.Errors.Last.{tries-root, turns-all, tried-last}
 use Rattle.locator.proofs.Decoding.Counted.{few-roots-below, located-none, counted-explained, counted-wrong}
 use Rattle.locator.proofs.Decoder.{sound, complete-size, complete-counted}
+use Rattle.errors.specs.Roots.{polynomial}
+use Rattle.errors.specs.Fractions.{told}
+use Rattle.errors.specs.Errors.{Errors-found}
 use Rattle.search.specs.Planes.{Plane-found, Ended, Decoded}
-use Rattle.search.specs.Steps.{plane-sums, Sought-all, polynomial, Walked, told, Errors-found}
+use Rattle.search.specs.Steps.{plane-sums, Sought-all, Walked}
 use Rattle.search.proofs.NoRoots.{one-nowhere, no-roots-below, one-at}
 use Rattle.search.proofs.Seeking.{short-sought, long-sought}
-use Rattle.search.proofs.Told.{weighted-at, weighted-others, numbers-others, weighted-ended}
+use Rattle.search.proofs.Marked.{weighted-at, weighted-others, numbers-others, weighted-ended}
 
 -- the error told looks at no more sums than the polynomial has coefficients
 quotient-length : (c : ℕ) (ps : List ℕ) → length (quotient c ps) ≤ length ps

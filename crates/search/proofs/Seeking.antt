@@ -27,7 +27,8 @@ use Rattle.arrays.proofs.Part.{part-lent}
 use Rattle.locator.proofs.Rows.Lanes.{lane-written-none, lane-written-more}
 use Rattle.locator.proofs.Locator.Shape.{massey-length, massey-same}
 use Rattle.locator.proofs.Locator.Progression.{zero-locator, geometric-locator}
-use Rattle.search.specs.Steps.{plane-sums, Lane-put, Short-put, Found-put, Seeks, Sought-all, Short-all, Fits}
+use Rattle.errors.specs.Roots.{Fits}
+use Rattle.search.specs.Steps.{plane-sums, Lane-put, Short-put, Found-put, Seeks, Sought-all, Short-all}
 
 -- what is looked for, by the length of the locator
 module _ (t : ℕ) (state : State) where

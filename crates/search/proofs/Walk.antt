@@ -8,36 +8,21 @@ use native.Mathlib.Omega.{arith}
 use native.Mathlib.Decide.{decLt, ℕ-discrete}
 use native.Mathlib.Numerals.{add-one}
 use lib.Dec.{eqb, ltb}
-use lib.ListN.{length, getD, List·getD-eq-default}
+use lib.ListN.{length, getD}
 use borrow.Author.Tests.{eqb-true, eqb-false, lt-ltb, le-ltb}
 use Rattle.arrays.specs.Array.{all-zero}
 use Rattle.arrays.proofs.Zeros.{zero-at, some-not-zero}
 use Rattle.lanes.specs.Lanes.{row-width, in-row, lane}
-use Rattle.lanes.proofs.Lane.{lane-length, lane-at}
 use Rattle.code.specs.Size.{value-room, place-rows}
 use Rattle.code.specs.Settings.{Settings}
 use Rattle.code.proofs.Polynomials.Arithmetic.{eval-ext}
 use Rattle.locator.specs.Search.{at-place, roots-below, tries, turns}
 use Rattle.locator.proofs.Errors.Last.{roots-below-mono, tries-left, tries-none, turns-tried, turns-few, turns-all, turns-end}
-use Rattle.search.specs.Planes.{Longest}
-use Rattle.search.specs.Steps.{Fits, Same-values, polynomial, Place-counted, root-found, Roots-found, mark, Walked}
+use Rattle.errors.specs.Roots.{Longest, Fits, polynomial}
+use Rattle.errors.proofs.Longest.{all-numbers, same-coefficients}
+use Rattle.search.specs.Steps.{Same-values, Place-counted, root-found, Roots-found, mark, Walked}
 
--- as many coefficients as the longest polynomial has are a plane's own, and zeros behind them
-pub same-coefficients :
-    (most t : ℕ) (rows roots : List ℕ) → Fits t rows roots → Longest roots most → (p : ℕ) → p < value-room →
-    (i : ℕ) → getD (lane p (most + 1) rows) i 0 ≡ getD (polynomial rows roots p) i 0
-same-coefficients most t rows roots f m p h i = go (decLt i (most + 1)) (decLt i (getD roots p 0 + 1))
-  where
-    go : Dec (i < most + 1) → Dec (i < getD roots p 0 + 1) → getD (lane p (most + 1) rows) i 0 ≡ getD (polynomial rows roots p) i 0
-    go (yes a) (yes b) = lane-at p (most + 1) rows i a ∙ sym (lane-at p _ rows i b)
-    go (yes a) (no b) =
-        lane-at p (most + 1) rows i a ∙ f .past p i h (omega arith) ∙ sym (List·getD-eq-default (polynomial rows roots p) 0 (omega (arith, lane-length p (getD roots p 0 + 1) rows)))
-    go (no a) (yes b) = absurd (omega (arith, m .above p))
-    go (no a) (no b) =
-        List·getD-eq-default (lane p (most + 1) rows) 0 (omega (arith, lane-length p (most + 1) rows))
-        ∙ sym (List·getD-eq-default (polynomial rows roots p) 0 (omega (arith, lane-length p (getD roots p 0 + 1) rows)))
-
--- so the values by them are those by its own
+-- the values by as many coefficients as the longest polynomial has are those by a plane's own
 pub same-values : (most t : ℕ) (rows roots : List ℕ) → Fits t rows roots → Longest roots most → Same-values (most + 1) rows roots
 unfolding Same-values
 same-values most t rows roots f m p x h byte =
@@ -179,22 +164,6 @@ walked-end j places end s rows roots left tried marks l e h w = go (all-zero lef
     go : (b : Bool) → all-zero left ≡ b → end ≡ cond b j places → Walked places s rows roots left tried marks
     go true q f = walked-early j places s rows roots left tried marks l q w
     go false q f = rw (let g : places ≡ j = omega arith in g) w
-
--- behind the planes there are no numbers
-all-numbers : (numbers : List ℕ) (most : ℕ) → length numbers ≡ value-room → ((p : ℕ) → p < value-room → getD numbers p 0 ≤ most) → (p : ℕ) → getD numbers p 0 ≤ most
-all-numbers numbers most e h p = go (decLt p value-room)
-  where
-    go : Dec (p < value-room) → getD numbers p 0 ≤ most
-    go (yes l) = h p l
-    go (no l) = let z : getD numbers p 0 ≡ 0 = List·getD-eq-default numbers 0 (omega arith) in omega arith
-
--- of the first numbers none is above the largest, and it is no larger than it must be
-pub record Longest-to (p : ℕ) (numbers : List ℕ) (most : ℕ) : Type 0 where
-  pub above : (q : ℕ) → q < p → getD numbers q 0 ≤ most
-  pub least : (k : ℕ) → ((q : ℕ) → getD numbers q 0 ≤ k) → most ≤ k
-
-pub longest-whole : (p : ℕ) (numbers : List ℕ) (most : ℕ) → length numbers ≡ value-room → p ≡ value-room → Longest-to p numbers most → Longest numbers most
-longest-whole p numbers most e q l = record { above = all-numbers numbers most e (λ k h. l .above k (omega arith)); least = l .least }
 
 -- the walk goes on while a plane has a root left, which has tried every place so far
 pub ended-none : (s : Settings) (rows roots left tried marks : List ℕ) → Walked 0 s rows roots left tried marks → Longest tried 0

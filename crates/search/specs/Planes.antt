@@ -10,6 +10,7 @@ use Rattle.code.specs.Settings.{Settings, check-count}
 use Rattle.code.specs.Repair.{Near}
 use Rattle.locator.specs.Errors.{Near-errors}
 use Rattle.locator.specs.Search.{last-wrong}
+use Rattle.errors.specs.Roots.{Longest}
 
 -- a plane of zeros and the checks cs: no root is left to find, and the errors are those of the codeword near and were found where the
 -- last of them is; or roots are left, no codeword is near, and all places were tried
@@ -17,11 +18,6 @@ unfoldable pub Plane-found : Settings → (cs weighted : List ℕ) → (left tri
 Plane-found s cs ys l k =
     ((l ≡ 0) × Near-errors s cs ys × (k ≡ last-wrong ys))
     ⊎ ((l ≡ 0 → ⊥) × ((us ds : List ℕ) → Near s (replicate (s .n) 0) cs us ds → ⊥) × (k ≡ s .n + check-count s))
-
--- the least number that none of the numbers is above
-pub record Longest (numbers : List ℕ) (most : ℕ) : Type 0 where
-  pub above : (p : ℕ) → getD numbers p 0 ≤ most
-  pub least : (k : ℕ) → ((p : ℕ) → getD numbers p 0 ≤ k) → most ≤ k
 
 -- a search through so many places ended with the plane that tried most, and wrote nothing behind that place
 pub record Ended (places : ℕ) (tried rows : List ℕ) (turns : ℕ) : Type 0 where

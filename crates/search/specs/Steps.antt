@@ -2,18 +2,18 @@
 use mathlib.Core.Path.{_≡_}
 use mathlib.Core.Bool.{Bool, true, false, cond}
 use mathlib.Core.List.{List, [], _∷_}
-use Prim.Native.Nat.{ℕ, suc, _+_, _*_, _-_, _/_, _≤_, _<_}
+use Prim.Native.Nat.{ℕ, _+_, _*_, _-_, _≤_, _<_}
 use lib.Dec.{eqb}
-use lib.ListN.{length, getD, drop}
+use lib.ListN.{length, getD}
 use Rattle.arrays.specs.Array.{Written}
-use Rattle.field.specs.Field.{times, power, inverse}
 use Rattle.lanes.specs.Lanes.{row-width, in-row, lane}
 use Rattle.code.specs.Size.{value-room, place-rows, locator-rows}
 use Rattle.code.specs.Settings.{Settings, settings}
 use Rattle.code.specs.Polynomial.{eval}
-use Rattle.locator.specs.Locator.{massey, against, quotient}
+use Rattle.locator.specs.Locator.{massey}
 use Rattle.locator.specs.Plane.{Lane-written}
 use Rattle.locator.specs.Search.{sought, roots-sought, at-place, roots-below, tries, turns}
+use Rattle.errors.specs.Roots.{polynomial}
 use Rattle.search.specs.Planes.{Ended}
 use Rattle.search.specs.declared.places.Found.{Found}
 
@@ -57,16 +57,6 @@ Short-all false planes count sums roots rows roots-now rows-now = Unit {0}
 Short-all true planes count sums roots rows roots-now rows-now =
     (t : ℕ) → 1 ≤ t → Sought-all 0 count t sums roots rows → Sought-all planes count t sums roots-now rows-now
 
--- no plane looks for more than t roots or has coefficients past them
-pub record Fits (t : ℕ) (rows roots : List ℕ) : Type 0 where
-  pub many : length roots ≡ value-room
-  pub small : (p : ℕ) → getD roots p 0 ≤ t
-  pub past : (p m : ℕ) → p < value-room → getD roots p 0 < m → getD rows (in-row m p) 0 ≡ 0
-
--- the polynomial of plane p, as long as it has roots to find
-abbrev pub polynomial : (rows roots : List ℕ) → (p : ℕ) → List ℕ
-polynomial rows roots p = lane p (getD roots p 0 + 1) rows
-
 -- so many coefficients give every polynomial its own values: those past it are 0
 unfoldable pub Same-values : (many : ℕ) → (rows roots : List ℕ) → Type 0
 Same-values many rows roots = (p x : ℕ) → p < value-room → x < 256 → eval (lane p many rows) x ≡ eval (polynomial rows roots p) x
@@ -104,63 +94,3 @@ pub record Walked (done : ℕ) (s : Settings) (rows roots left tried marks : Lis
 pub record Walked-through (n t : ℕ) (rows roots : List ℕ) (found : Found) : Type 0 where
   pub walked : Walked (n + 2 * t) (settings n t value-room) rows roots (found .left) (found .tried) (found .marks)
   pub ended : Ended (n + 2 * t) (found .tried) (found .marks) (found .turns)
-
--- what its sums and its polynomial tell of a place: the quotient against the sums, divided by the quotient's value
-abbrev pub told : (rows sums roots : List ℕ) → (p x : ℕ) → ℕ
-told rows sums roots p x =
-    times (against (quotient x (polynomial rows roots p)) (λ i. getD sums (in-row i p) 0) 0) (inverse (eval (quotient x (polynomial rows roots p)) x))
-
--- of so many rows of numerators the first are in each plane the coefficients behind one against the sums, and the others are zeros
-pub record Numerators (done size : ℕ) (rows sums numerators : List ℕ) : Type 0 where
-  pub long : length numerators ≡ locator-rows
-  pub each :
-      (d p : ℕ) → d < done → p < row-width →
-      getD numerators (in-row d p) 0 ≡ against (drop (suc d) (lane p (size + 1) rows)) (λ i. getD sums (in-row i p) 0) 0
-  pub ahead : (i : ℕ) → row-width * done ≤ i → getD numerators i 0 ≡ 0
-
--- the first rows are those of the coefficients of odd powers
-pub record Slopes (half : ℕ) (rows slopes : List ℕ) : Type 0 where
-  pub long : length slopes ≡ locator-rows
-  pub each : (k p : ℕ) → k < half → p < row-width → getD slopes (in-row k p) 0 ≡ getD rows (in-row (2 * k + 1) p) 0
-
--- the same by two polynomials, the lower one of the place's square
-abbrev pub fraction : (numerators slopes : List ℕ) → (size p exponent : ℕ) → ℕ
-fraction numerators slopes size p e =
-    times (eval (lane p size numerators) (power 2 e)) (inverse (eval (lane p ((size + 1) / 2) slopes) (power 2 (e + e))))
-
--- and by the first sum, where no polynomial has more than two coefficients
-abbrev pub first-told : (rows sums : List ℕ) → (p : ℕ) → ℕ
-first-told rows sums p = cond (eqb (getD rows (row-width + p) 0) 0) 0 (getD sums p 0)
-
--- a mark gives way to the error at the place, and no mark to none
-unfoldable pub error-told : (mark error : ℕ) → ℕ
-error-told m e = cond (eqb m 0) 0 e
-
--- so it is of the first planes at one place
-abbrev pub Errors-put : (planes at : ℕ) → (error : ℕ → ℕ) → (marks weighted : List ℕ) → Type 0
-Errors-put planes at error marks weighted = Written at planes (λ p. error-told (getD marks (at + p) 0) (error p)) marks weighted
-
--- and at the first places; every other byte is kept
-pub record Errors-told (done : ℕ) (error : (j p : ℕ) → ℕ) (marks weighted : List ℕ) : Type 0 where
-  pub long : length weighted ≡ length marks
-  pub bytes : (i : ℕ) → getD weighted i 0 < 256
-  pub each : (j p : ℕ) → j < done → p < value-room → getD weighted (in-row j p) 0 ≡ error-told (getD marks (in-row j p) 0) (error j p)
-  pub ahead : (i : ℕ) → row-width * done ≤ i → getD weighted i 0 ≡ getD marks i 0
-  pub behind : (j p : ℕ) → value-room ≤ p → p < row-width → getD weighted (in-row j p) 0 ≡ getD marks (in-row j p) 0
-
--- of the first planes none that looks for a root has found them all
-abbrev pub None-found : (planes : ℕ) → (roots left : List ℕ) → Type 0
-None-found planes roots left = (p : ℕ) → p < planes → getD left p 0 ≡ 0 → getD roots p 0 ≡ 0
-
--- a plane that looks for no root has no mark
-abbrev pub Unsought : (roots marks : List ℕ) → Type 0
-Unsought roots marks = (j p : ℕ) → p < value-room → getD roots p 0 ≡ 0 → getD marks (in-row j p) 0 ≡ 0
-
--- the errors of the planes that have found all their roots
-pub record Errors-found (done : ℕ) (error : (j p : ℕ) → ℕ) (left marks weighted : List ℕ) : Type 0 where
-  pub long : length weighted ≡ length marks
-  pub bytes : (i : ℕ) → getD weighted i 0 < 256
-  pub each :
-      (j p : ℕ) → j < done → p < value-room → getD left p 0 ≡ 0 → getD weighted (in-row j p) 0 ≡ error-told (getD marks (in-row j p) 0) (error j p)
-  pub ahead : (i : ℕ) → row-width * done ≤ i → getD weighted i 0 ≡ getD marks i 0
-  pub behind : (j p : ℕ) → value-room ≤ p → p < row-width → getD weighted (in-row j p) 0 ≡ getD marks (in-row j p) 0

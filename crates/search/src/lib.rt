@@ -1,8 +1,6 @@
 // The search of all planes for their wrong places: what is looked for in each, and the walk through the places in order.
-mod fractions;
 mod locators;
 mod places;
-mod weighted;
 
 ghost use mathlib.Core.Path.{_≡_};
 ghost use Prim.Native.Nat.{_≤_};
@@ -46,7 +44,7 @@ pub fn decode(
     let left = found.left;
     let tried = found.tried;
     let mut weighted = found.marks;
-    weighted::put_found_errors(
+    errors::weighted::put_found_errors(
         powers,
         logarithms,
         &rows,

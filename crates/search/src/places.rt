@@ -12,10 +12,11 @@ ghost use Rattle.arrays.specs.Array.{all-zero};
 ghost use Rattle.field.specs.Table.{Powers};
 ghost use Rattle.code.specs.Size.{most-columns, most-bad, value-room, locator-rows};
 ghost use Rattle.sums.specs.Places.{Coefficient-tables};
-ghost use Rattle.search.specs.Planes.{Longest};
-ghost use Rattle.search.specs.Steps.{Place-counted, «root-found», Roots-found, Fits, Same-values, Walked-through};
+ghost use Rattle.errors.specs.Roots.{Fits};
+ghost use Rattle.search.specs.Steps.{Place-counted, «root-found», Roots-found, Same-values, Walked-through};
 use code::sizes::PLACE_ROWS;
 use code::sizes::VALUE_ROOM;
+use errors::roots::longest;
 use lanes::ROW_WIDTH;
 use sums::places::LOCATOR_TABLES;
 use sums::places::SHORT_LOCATOR;
@@ -31,23 +32,6 @@ pub struct Found {
     pub tried: [u8; VALUE_ROOM],
     pub marks: [u8; PLACE_ROWS],
     pub turns: usize,
-}
-
-// The largest number.
-pub fn longest(roots: [u8; VALUE_ROOM]) -> usize
-    requires { ⌜ length roots ≡ value-room ⌝ }
-    ensures { λ r. ⌜ Longest roots r ⌝ }
-{
-    let mut most = 0;
-    let mut p = 0;
-    while p < VALUE_ROOM {
-        let size = roots[p] as usize;
-        if most < size {
-            most = size;
-        }
-        p += 1;
-    }
-    most
 }
 
 // How many places a plane has tried after a turn.

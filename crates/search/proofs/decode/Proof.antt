@@ -7,7 +7,7 @@ use Rattle.code.specs.Size.{most-columns, value-room}
 use Rattle.code.specs.Settings.{settings, check-count}
 use Rattle.code.proofs.ValidSettings.{bounds}
 use Rattle.search.proofs.Seeking.{fits}
-use Rattle.search.proofs.Told.{unsought}
+use Rattle.search.proofs.Marked.{unsought}
 use Rattle.search.proofs.Decoding.{walked-as, decoded}
 use Rattle.search.proofs.decode.Statement.{statement}
 use Rattle.search.proofs.decode.Tie as tie

@@ -16,8 +16,8 @@ use Rattle.code.specs.Settings.{settings, check-count}
 use Rattle.code.specs.Polynomial.{eval}
 use Rattle.locator.specs.Errors.{place-exponent}
 use Rattle.locator.specs.Search.{at-place}
-use Rattle.search.specs.Planes.{Longest}
-use Rattle.search.specs.Steps.{Same-values, polynomial, Walked}
+use Rattle.errors.specs.Roots.{Longest, polynomial}
+use Rattle.search.specs.Steps.{Same-values, Walked}
 use Rattle.search.proofs.Walk.{walked-none, walked-more, walked-end, ended-none, ended-more}
 use Rattle.search.proofs.places.try_places.Statement.{statement}
 use Rattle.search.proofs.places.try_places.Tie as tie

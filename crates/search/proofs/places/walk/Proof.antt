@@ -5,7 +5,8 @@ use Prim.Native.Nat.{ℕ, _+_, _≤_}
 use native.Mathlib.Omega.{arith}
 use Rattle.code.specs.Size.{most-bad}
 use Rattle.sums.specs.Places.{Coefficient-tables}
-use Rattle.search.specs.Steps.{Fits, Same-values}
+use Rattle.errors.specs.Roots.{Fits}
+use Rattle.search.specs.Steps.{Same-values}
 use Rattle.search.proofs.Walk.{same-values}
 use Rattle.search.proofs.places.walk.Statement.{statement}
 use Rattle.search.proofs.places.walk.Tie as tie

@@ -1,0 +1,3 @@
+pub mod Roots
+pub mod Fractions
+pub mod Errors
