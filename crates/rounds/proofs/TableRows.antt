@@ -82,6 +82,12 @@ module _ (s : Settings) (vs : Vector) (slot : Slot) (i : ℕ) (checks : List ℕ
     unfolding Slot-row
     frame-row told r = rw (frame-of-taken (checks-size s) slot taken) r
 
+    -- the last repair from then on, by the checks that are kept
+    kept-row :
+        (at told : ℕ) → length checks-now ≡ length checks → take (checks-size s) checks-now ≡ came → a .changed < told-missing →
+        Row s vs (some came) (row-of s x-now at) (told-of a) → Last-row s vs checks-now (with a at told) x-now
+    kept-row at told long kept few r = record { long = long ∙ memo .long; few = few; row = rw kept r }
+
     -- the places changed are few
     pub slot-few : (again : Bool) → Slot-repaired s vs slot checks checks-now (last .answer) again a row row-now → a .changed < told-missing
     unfolding Repaired-again
@@ -99,12 +105,7 @@ module _ (s : Settings) (vs : Vector) (slot : Slot) (i : ℕ) (checks : List ℕ
           shape = put .shape;
           here = frame-row (told-of a) (rw (row-copied (s .n) (value-size s) i x x-now (last .at) put, same .0, same .1) (memo .row));
           others = others;
-          memo =
-              record {
-                long = r .long ∙ memo .long;
-                few = rw (same .1) (memo .few);
-                row = rw (r .kept, others (last .at) apart, same .0, same .1) (memo .row);
-              };
+          memo = kept-row (last .at) (told-of a) (r .long) (r .kept) (rw (same .1) (memo .few)) (rw (others (last .at) apart, same .0, same .1) (memo .row));
           at = inl refl;
           empty = rw (same .2) empty;
         }
@@ -127,7 +128,7 @@ module _ (s : Settings) (vs : Vector) (slot : Slot) (i : ℕ) (checks : List ℕ
           shape = put .shape;
           here = frame-row (told-of a) found;
           others = row-put-others (s .n) (value-size s) i x x-now _ put;
-          memo = record { long = r .long ∙ memo .long; few = r .found .0; row = rw (r .kept) found };
+          memo = kept-row i (told-of a) (r .long) (r .kept) (r .found .0) found;
           at = inr refl;
           empty = b;
         }
