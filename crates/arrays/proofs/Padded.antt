@@ -1,11 +1,11 @@
--- Arrays that hold bytes in front of zeros. Such an array reads as its bytes do, at every place, since both are 0 behind them; so an
--- array of that length which reads so is one. A loop that puts one byte after the other into zeros makes one. Assumes nothing.
+-- Arrays that hold bytes in front of zeros. Such an array reads as its bytes do, at every place, since both are 0 behind them.
+-- A loop that puts one byte after the other into zeros makes one. Assumes nothing.
 use mathlib.Core.Path.{_≡_, refl, sym, _∙_, ap}
 use mathlib.Core.List.{List, [], _∷_, _++_}
-use Prim.Native.Nat.{ℕ, zero, suc, _≤_, _<_}
+use Prim.Native.Nat.{ℕ, zero, suc, _<_}
 use native.Mathlib.Omega.{arith}
-use lib.ListN.{length, getD, drop, set, replicate, length-append, length-drop, length-replicate}
-use lib.Seq.{drop-cons, getD-drop, set-at, append-snoc, ext-getD}
+use lib.ListN.{length, getD, drop, set, replicate, length-append, length-replicate}
+use lib.Seq.{drop-cons, getD-drop, set-at, append-snoc}
 use Rattle.arrays.specs.Array.{in-front, padded}
 use Rattle.arrays.proofs.Zeros.{zeros-at}
 
@@ -18,13 +18,6 @@ module _ (room : ℕ) (bs : List ℕ) where
   pub padded-at : (i : ℕ) → getD (padded room bs) i 0 ≡ getD bs i 0
   unfolding padded in-front
   padded-at i = before-zeros bs _ i (λ j. getD-drop (length bs) (replicate room 0) j 0 ∙ zeros-at room _)
-
-  pub padded-length : length bs ≤ room → length (padded room bs) ≡ room
-  unfolding padded in-front
-  padded-length h = simp (length-append, length-drop, length-replicate) (omega arith)
-
-  pub padded-of : (array : List ℕ) → length array ≡ room → length bs ≤ room → ((i : ℕ) → getD array i 0 ≡ getD bs i 0) → array ≡ padded room bs
-  padded-of array e h f = ext-getD 0 array (padded room bs) (e ∙ sym (padded-length h)) (λ i l. f i ∙ sym (padded-at i))
 
   pub padded-more : (k v : ℕ) → length bs ≡ k → k < room → set (padded room bs) k v ≡ padded room (bs ++ (v ∷ []))
   unfolding padded in-front

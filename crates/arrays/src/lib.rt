@@ -4,7 +4,7 @@ ghost use Prim.Native.Nat.{_+_, _*_, _≤_, _<_};
 ghost use lib.ListN.{length, getD};
 ghost use Rattle.arrays.specs.Array.{Written, all-zero};
 
-// The widths that the machine moves in one step: a word, and half a word, which is a height.
+// The widths that the machine moves in one step: a word, and half a word. Values of eight and of four bytes have them.
 const WORD: usize = 8;
 
 const HALF_WORD: usize = 4;

@@ -1,5 +1,4 @@
 pub mod Bytewise
-pub mod Stored
 pub mod Placed
 pub mod Planes
 pub mod Alike

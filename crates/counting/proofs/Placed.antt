@@ -6,21 +6,30 @@ use mathlib.Core.List.{List, [], _∷_}
 use Prim.Native.Nat.{ℕ, zero, suc, _+_, _*_, _≤_, _<_}
 use native.Mathlib.Omega.{arith}
 use native.Mathlib.Nat.{suc-mul}
-use lib.ListN.{length, getD, take, drop, replicate, length-drop, length-replicate}
+use lib.ListN.{length, getD, take, drop, set, replicate, length-drop, length-replicate}
 use lib.Seq.{getD-take, getD-drop, drop-drop, length-take-le, ext-getD}
 use borrow.Author.Count.{below-more}
 use Rattle.arrays.specs.Array.{in-front, padded, Written}
-use Rattle.arrays.proofs.Padded.{padded-at}
+use Rattle.arrays.proofs.Padded.{padded-at, padded-more}
 use Rattle.arrays.proofs.Zeros.{zeros-at}
 use Rattle.code.specs.Settings.{Settings, value-size}
-use Rattle.code.specs.Size.{most-columns, vector-room}
+use Rattle.code.specs.Size.{most-columns, value-room, vector-room}
 use Rattle.code.specs.Vector.{cut, glued}
 use Rattle.code.specs.Entry.{values-in}
+use Rattle.code.proofs.ValidSettings.{values-fit}
 use Rattle.code.proofs.Vectors.Cut.{cut-length, value-fits, next-value, in-front-cut}
 use Rattle.grading.specs.Value.{Value, entries}
 use Rattle.grading.specs.Held.{Held, held-as, held-in, held-values, held-confidences}
 use Rattle.counting.specs.Stored.{Stores, Stores-held}
-use Rattle.grading.proofs.Value.{entries-length, entries-of, entries-alike}
+use Rattle.grading.proofs.Value.{entries-length, entries-of, entries-alike, entries-more}
+
+-- a value's place is in the array of a vector
+pub place-fits : (k w : ℕ) → k < most-columns → w ≤ value-room → k * w + w ≤ vector-room
+place-fits k w h l = omega (arith, value-fits k most-columns w h, values-fit most-columns w (omega arith) l)
+
+-- entries that are put in one after the other, zeros behind them
+pub padded-entry : (room k v : ℕ) (f : ℕ → ℕ) → k < room → v ≡ f k → set (padded room (entries k 0 f)) k v ≡ padded room (entries (k + 1) 0 f)
+padded-entry room k v f h e = padded-more room (entries k 0 f) k v (entries-length k 0 f) h ∙ rw (e, entries-more k f)
 
 -- value j of an array of values
 pub cut-at : (n w : ℕ) (bs : List ℕ) (j : ℕ) → j < n → getD (cut n w bs) j [] ≡ take w (drop (j * w) bs)

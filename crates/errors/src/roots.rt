@@ -5,7 +5,7 @@ ghost use Rattle.code.specs.Size.{value-room};
 ghost use Rattle.errors.specs.Roots.{Longest};
 use code::sizes::VALUE_ROOM;
 
-// The largest number.
+// The most roots that a plane looks for.
 pub fn longest(roots: [u8; VALUE_ROOM]) -> usize
     requires { ⌜ length roots ≡ value-room ⌝ }
     ensures { λ r. ⌜ Longest roots r ⌝ }

@@ -273,8 +273,8 @@ fn none_found(roots: [u8; VALUE_ROOM], left: [u8; VALUE_ROOM]) -> bool
     true
 }
 
-// The same of the planes that have found all their roots. Of the others nothing is asked, so that where no plane has, which is common where
-// no codeword is near, no fraction is worked out.
+// In place of each mark the error there, of the planes that have found all their roots. Of the others nothing is asked, so that where no
+// plane has, which is common where no codeword is near, no fraction is worked out.
 pub fn put_found_errors(
     powers: &[u8; 255],
     logarithms: &[u8; 256],

@@ -1,4 +1,5 @@
 pub mod Rows
 pub mod SenderRow
+pub mod SlotRow
 pub mod TableRows
 pub mod AfterRound

@@ -180,10 +180,10 @@ module _ (n t w size count : ℕ) (vector own x row : List ℕ) (fine : settings
       mark : (a .answer ≡ 0 → ⊥) → told-of a ≡ told-none
       mark f = rw (ne-eqb (a .answer) 0 f) refl
 
--- the last answer again: the checks are the last ones, and the array is as it was
-pub again-same :
+-- the last answer again: the checks are the last ones
+pub same-checks :
     (s : Settings) (vs : Vector) (x ls : List ℕ) (last : RepairAnswer) (again : Bool) (a : RepairAnswer) (row now : List ℕ) → not again ≡ false →
-    Repaired-again s vs x ls last again a row now → (x ≡ ls) × (now ≡ row)
+    Repaired-again s vs x ls last again a row now → x ≡ ls
 unfolding Repaired-again
-again-same s vs x ls last true a row now e r = (r .0, r .2)
-again-same s vs x ls last false a row now e r = true-not-false e
+same-checks s vs x ls last true a row now e r = r .0
+same-checks s vs x ls last false a row now e r = true-not-false e

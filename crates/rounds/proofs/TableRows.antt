@@ -1,6 +1,5 @@
--- The rows of a table as they are put in. The own row goes in first, and the own checks give it; after that each slot's row in turn: blanks
--- for a missing frame, the last repair's row again for its checks, and else the row that repair left. What is put in stays as it is while
--- later rows are, the last repair's too, which stands behind or is the own one. Assumes nothing.
+-- The rows of a table as they are put in. The own row goes in first, and the own checks give it; after that each slot's row in turn. What is
+-- put in stays as it is while later rows are, the last repair's too, which stands behind or is the own one. Assumes nothing.
 use mathlib.Core.Path.{_≡_, refl, sym, _∙_, ap}
 use mathlib.Core.Bool.{Bool, true, false}
 use mathlib.Core.List.{List, [], _∷_}
@@ -13,34 +12,26 @@ use lib.ListN.{length, getD, take, set, replicate, length-set, getD-replicate}
 use lib.Seq.{getD-set-same, getD-set-other, getD-take, length-take-le}
 use borrow.Author.Count.{below-more}
 use borrow.Author.Tests.{eqb-true, eqb-false}
-use Rattle.arrays.proofs.Bool.{true-not-false}
 use Rattle.arrays.proofs.Front.{front-kept}
 use Rattle.arrays.proofs.Zeros.{zeros-at}
 use Rattle.code.specs.Settings.{Settings, settings, settings-refusal, value-size}
-use Rattle.code.specs.Size.{most-columns, value-room, vector-room, checks-room}
+use Rattle.code.specs.Size.{most-columns, value-room, checks-room}
 use Rattle.code.specs.Vector.{is-vector, has-checks}
 use Rattle.code.specs.Entry.{values-in}
 use Rattle.code.specs.Promise.{Repairs}
 use Rattle.code.proofs.Vectors.Planes.{differ-values-self, repairs}
 use Rattle.grading.specs.Value.{Vector, blank, blanks, entries}
 use Rattle.grading.proofs.Value.{entries-alike}
-use Rattle.counting.specs.Steps.Table.{Planes, Shaped, row-plane, written-plane, Row-put, byte-in, value-in, row-in}
-use Rattle.counting.proofs.Planes.{zero-plane, row-written, row-copied, row-put-others}
-use Rattle.record.specs.Frame.{checks-in, operand-in}
-use Rattle.record.specs.Record.{told-missing}
+use Rattle.counting.specs.Steps.Table.{Planes, Shaped, written-plane, Row-put, byte-in, value-in, row-in}
+use Rattle.counting.proofs.Planes.{zero-plane, row-written, row-put-others}
+use Rattle.record.specs.Frame.{checks-in}
 use Rattle.record.specs.declared.Slot.{Slot}
-use Rattle.record.proofs.View.{frame-of-empty, frame-of-taken}
-use Rattle.repair.specs.declared.RepairAnswer.{RepairAnswer}
 use Rattle.rounds.specs.Exchange.{Row}
-use Rattle.rounds.specs.Steps.Senders.{coded-settings, coded-vector, Coded-right, Blank-rows, checks-size, told-of, Repaired-again, Slot-repaired, row-of, Last-row, Empty-row, Slot-put, slot-past, Slot-row, Slots-told}
+use Rattle.rounds.specs.Steps.Senders.{coded-settings, coded-vector, Coded-right, Blank-rows, checks-size, told-of, row-of, Last-row, Empty-row, Slot-put, slot-past, Slot-row, Slots-told}
 use Rattle.rounds.specs.declared.senders.Coded.{Coded}
 use Rattle.rounds.specs.declared.senders.Last.{Last}
 use Rattle.rounds.proofs.Rows.{checked-vector}
-use Rattle.rounds.proofs.SenderRow.{cut-sized, zeros-blanks}
-
--- an array of zeros is one for a row of blanks
-pub zeros-empty : (s : Settings) → s .n * value-size s ≤ vector-room → Empty-row s (replicate vector-room 0)
-zeros-empty s h = record { long = refl; blank = zeros-blanks s vector-room h }
+use Rattle.rounds.proofs.SenderRow.{cut-sized}
 
 -- the own checks give the own row, with no place changed
 own-checked :
@@ -51,90 +42,6 @@ own-checked s vs x fine v e =
     let none = differ-values-self vs in
     let repair = repairs s vs vs (checks-in s x) fine v v e (omega arith) in
     inl (checks-in s x, repair .0, sym (repair .1 ∙ none))
-
--- one slot
-module _ (s : Settings) (vs : Vector) (slot : Slot) (i : ℕ) (checks : List ℕ) (last : Last) (row : List ℕ) (x : Planes) (memo : Last-row s vs checks last x)
-    (empty : Empty-row s row) where
-  abbrev came : List ℕ
-  came = take (checks-size s) (operand-in (slot .bytes))
-
-  abbrev with : RepairAnswer → (at told : ℕ) → Last
-  with a at told = record { answer = a; at = at; told = told }
-
-  -- a missing frame: the row is blanks already
-  pub slot-missing :
-      slot .taken ≡ 0 → Shaped x → row-of s x i ≡ blanks s →
-      Slot-put s vs slot i checks last (with (last .answer) (last .at) told-missing) row x x
-  unfolding Slot-row Row
-  slot-missing e shape blank =
-      record {
-        shape = shape;
-        here = rw (frame-of-empty (checks-size s) slot e) (blank, refl);
-        others = λ j d. refl;
-        memo = record { long = memo .long; few = memo .few; row = memo .row };
-        at = inl refl;
-        empty = empty;
-      }
-
-  -- a frame: what repair says by its checks
-  module _ (checks-now : List ℕ) (a : RepairAnswer) (row-now : List ℕ) (x-now : Planes) (taken : slot .taken ≡ 0 → ⊥) where
-    frame-row : (told : ℕ) → Row s vs (some came) (row-of s x-now i) told → Slot-row s vs false slot (row-of s x-now i) told
-    unfolding Slot-row
-    frame-row told r = rw (frame-of-taken (checks-size s) slot taken) r
-
-    -- the last repair from then on, by the checks that are kept
-    kept-row :
-        (at told : ℕ) → length checks-now ≡ length checks → take (checks-size s) checks-now ≡ came → a .changed < told-missing →
-        Row s vs (some came) (row-of s x-now at) (told-of a) → Last-row s vs checks-now (with a at told) x-now
-    kept-row at told long kept few r = record { long = long ∙ memo .long; few = few; row = rw kept r }
-
-    -- the places changed are few
-    pub slot-few : (again : Bool) → Slot-repaired s vs slot checks checks-now (last .answer) again a row row-now → a .changed < told-missing
-    unfolding Repaired-again
-    slot-few true r = rw (r .found .1) (memo .few)
-    slot-few false r = r .found .0
-
-    -- the last answer again, and its row
-    pub slot-again :
-        (again : Bool) → again ≡ true → Slot-repaired s vs slot checks checks-now (last .answer) again a row row-now → (last .at ≡ i → ⊥) →
-        Row-put (value-size s) i (row-plane x (last .at)) x x-now → Slot-put s vs slot i checks-now last (with a (last .at) (told-of a)) row-now x x-now
-    unfolding Repaired-again
-    slot-again false e r apart put = true-not-false (sym e)
-    slot-again true e r apart put =
-        record {
-          shape = put .shape;
-          here = frame-row (told-of a) (rw (row-copied (s .n) (value-size s) i x x-now (last .at) put, same .0, same .1) (memo .row));
-          others = others;
-          memo = kept-row (last .at) (told-of a) (r .long) (r .kept) (rw (same .1) (memo .few)) (rw (others (last .at) apart, same .0, same .1) (memo .row));
-          at = inl refl;
-          empty = rw (same .2) empty;
-        }
-      where
-        same : (came ≡ take (checks-size s) checks) × (a ≡ last .answer) × (row-now ≡ row)
-        same = r .found
-
-        others : (j : ℕ) → (j ≡ i → ⊥) → row-of s x-now j ≡ row-of s x j
-        others = row-put-others (s .n) (value-size s) i x x-now _ put
-
-    -- a row that repair left, in an array that is blanks again
-    pub slot-repaired :
-        (again : Bool) → again ≡ false → Slot-repaired s vs slot checks checks-now (last .answer) again a row row-now → (blanked : List ℕ) →
-        Empty-row s blanked → s .n * value-size s ≤ length row-now → Row-put (value-size s) i (written-plane (s .n) (value-size s) row-now x i) x x-now →
-        Slot-put s vs slot i checks-now last (with a i (told-of a)) blanked x x-now
-    unfolding Repaired-again values-in
-    slot-repaired true e r blanked b fits put = true-not-false e
-    slot-repaired false e r blanked b fits put =
-        record {
-          shape = put .shape;
-          here = frame-row (told-of a) found;
-          others = row-put-others (s .n) (value-size s) i x x-now _ put;
-          memo = kept-row i (told-of a) (r .long) (r .kept) (r .found .0) found;
-          at = inr refl;
-          empty = b;
-        }
-      where
-        found : Row s vs (some came) (row-of s x-now i) (told-of a)
-        found = rw (row-written (s .n) (value-size s) i x x-now row-now put fits) (r .found .1)
 
 -- what is put in so far: the own row, the first slots' rows and what they tell, blanks ahead, and the last repair, whose row is behind or
 -- the own one
@@ -152,7 +59,13 @@ pub record Put (own : Coded) (number : ℕ) (slots : List Slot) (old : List ℕ)
   pub at : (last .at < i) ⊎ (last .at + 1 ≡ number)
   pub empty : Empty-row (coded-settings own) row
 
-module _ (own : Coded) (number : ℕ) (slots : List Slot) (array : List ℕ) (low : 1 ≤ number) (high : number ≤ own .n) (room : own .n ≤ length array) where
+-- the number is a column's, and each column has a place for what it tells
+pub record In-range (own : Coded) (number : ℕ) (array : List ℕ) : Type 0 where
+  pub low : 1 ≤ number
+  pub high : number ≤ own .n
+  pub room : own .n ≤ length array
+
+module _ (own : Coded) (number : ℕ) (slots : List Slot) (array : List ℕ) (range : In-range own number array) where
   abbrev s : Settings
   s = coded-settings own
 
@@ -253,7 +166,7 @@ module _ (own : Coded) (number : ℕ) (slots : List Slot) (array : List ℕ) (lo
       many = length-take-le (own .n) told (omega (arith, put .told-long, old-long));
       each = λ j h. rw (getD-take (own .n) told j 0 h) (each j h (eqb (j + 1) number) refl);
     },
-    front-kept (own .n) array told (put .told-long ∙ old-long) room (λ j h. put .told-ahead j h ∙ getD-set-other array (number - 1) j 0 0 (omega arith)),
+    front-kept (own .n) array told (put .told-long ∙ old-long) (range .room) (λ j h. put .told-ahead j h ∙ getD-set-other array (number - 1) j 0 0 (omega arith)),
   )
     where
       each : (j : ℕ) → j < own .n → (q : Bool) → eqb (j + 1) number ≡ q → Slot-row s (coded-vector own) q (getD slots j slot-past) (row-of s x j) (getD told j 0)

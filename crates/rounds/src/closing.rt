@@ -3,7 +3,7 @@ ghost use mathlib.Core.Path.{_≡_};
 ghost use mathlib.Core.Bool.{cond};
 ghost use Prim.Native.Nat.{_≤_};
 ghost use lib.ListN.{length, take};
-ghost use Rattle.code.specs.Size.{most-columns, value-room};
+ghost use Rattle.code.specs.Size.{value-room};
 ghost use Rattle.code.specs.Entry.{values-in};
 ghost use Rattle.counting.specs.Stored.{Stores};
 ghost use Rattle.counting.specs.Steps.Table.{rows-in, Shaped};
@@ -83,7 +83,7 @@ fn put_table(
     table: &mut Table,
     told: &mut [u8],
 )
-    requires { ⌜ (record-refusal (who-in who) ≡ 0) × (2 ≤ round) × (most-columns ≤ length (now told)) × Shaped (now table) × Blank-rows (settings-of who) (now table) ⌝ }
+    requires { ⌜ (record-refusal (who-in who) ≡ 0) × (2 ≤ round) × (who .n ≤ length (now told)) × Shaped (now table) × Blank-rows (settings-of who) (now table) ⌝ }
     ensures { λ _. ⌜ Table-told (inbox who round slots) (values-in (settings-of who) (who .n) vector) (rows-in (who .n) (who .w) (now (table .exit))) (now (told .entry)) (now (told .exit)) ⌝ }
 {
     let own = senders::with_checks(who.n, who.t, who.w, vector);

@@ -4,14 +4,14 @@ ghost use mathlib.Core.Bool.{true};
 ghost use Prim.Native.Nat.{_*_, _≤_, _<_};
 ghost use lib.ListN.{length};
 ghost use Rattle.code.specs.Settings.{settings, settings-refusal, check-count, value-size};
-ghost use Rattle.code.specs.Size.{most-columns, vector-room, checks-room};
+ghost use Rattle.code.specs.Size.{vector-room, checks-room};
 ghost use Rattle.code.specs.Vector.{has-checks};
 ghost use Rattle.code.specs.Entry.{values-in};
 ghost use Rattle.grading.specs.Value.{blanks};
 ghost use Rattle.counting.specs.Steps.Table.{Shaped};
 ghost use Rattle.record.specs.Frame.{checks-in};
 ghost use Rattle.record.specs.Record.{told-missing};
-ghost use Rattle.rounds.specs.Steps.Senders.{coded, coded-settings, coded-vector, Coded-right, checks-size, told-of, Repaired-again, Slot-repaired, row-of, Last-row, Empty-row, Slot-put, Blank-rows, Slots-told};
+ghost use Rattle.rounds.specs.Steps.Senders.{coded-settings, coded-vector, Coded-right, Own-lent, checks-size, told-of, Repaired-again, Slot-repaired, row-of, Last-row, Empty-row, Slot-put, Blank-rows, Slots-told};
 use code::sizes::CHECKS_ROOM;
 use code::sizes::MOST_COLUMNS;
 use code::sizes::VECTOR_ROOM;
@@ -84,8 +84,8 @@ fn by_checks(
     last: RepairAnswer,
     row: &mut [u8],
 ) -> Again
-    requires { ⌜ Coded-right (coded n t w (now vector) (now own)) × (length (now vector) ≡ vector-room) × (length (now own) ≡ checks-room) ⌝ }
-    requires { ⌜ (length (now checks) ≡ checks-size (settings n t w)) × (length (now row) ≡ vector-room) × (values-in (settings n t w) n (now row) ≡ blanks (settings n t w)) ⌝ }
+    requires { ⌜ Own-lent n t w (now vector) (now own) ⌝ }
+    requires { ⌜ (length (now checks) ≡ checks-size (settings n t w)) × Empty-row (settings n t w) (now row) ⌝ }
     ensures { λ r. ⌜ Repaired-again (settings n t w) (values-in (settings n t w) n (now (vector .entry))) (now (checks .entry)) (now («last_checks» .entry)) last (r .again) (r .answer) (now (row .entry)) (now (row .exit)) ⌝ }
 {
     let size = record::vector_size(n, w);
@@ -115,8 +115,8 @@ fn repaired(
     last: RepairAnswer,
     row: &mut [u8],
 ) -> Again
-    requires { ⌜ Coded-right (coded n t w (now vector) (now own)) × (length (now vector) ≡ vector-room) × (length (now own) ≡ checks-room) ⌝ }
-    requires { ⌜ (length (now «last_checks») ≡ checks-room) × (length (now row) ≡ vector-room) × (values-in (settings n t w) n (now row) ≡ blanks (settings n t w)) ⌝ }
+    requires { ⌜ Own-lent n t w (now vector) (now own) ⌝ }
+    requires { ⌜ (length (now «last_checks») ≡ checks-room) × Empty-row (settings n t w) (now row) ⌝ }
     ensures { λ r. ⌜ Slot-repaired (settings n t w) (values-in (settings n t w) n (now (vector .entry))) slot (now («last_checks» .entry)) (now («last_checks» .exit)) last (r .again) (r .answer) (now (row .entry)) (now (row .exit)) ⌝ }
 {
     let count = frames::operand_size(t, w, 2);
@@ -161,7 +161,7 @@ fn put_slot(
     row: &mut [u8; VECTOR_ROOM],
     table: &mut Table,
 ) -> Last
-    requires { ⌜ Coded-right (coded n t w (now vector) (now own)) × (length (now vector) ≡ vector-room) × (length (now own) ≡ checks-room) ⌝ }
+    requires { ⌜ Own-lent n t w (now vector) (now own) ⌝ }
     requires { ⌜ (i < n) × (last .at < n) × (last .at ≡ i → ⊥) × Last-row (settings n t w) (values-in (settings n t w) n (now vector)) (now checks) last (now table) ⌝ }
     requires { ⌜ Empty-row (settings n t w) (now row) × Shaped (now table) × (row-of (settings n t w) (now table) i ≡ blanks (settings n t w)) ⌝ }
     ensures { λ r. ⌜ Slot-put (settings n t w) (values-in (settings n t w) n (now (vector .entry))) slot i (now (checks .exit)) last r (now (row .exit)) (now (table .entry)) (now (table .exit)) ⌝ }
@@ -203,7 +203,7 @@ pub fn put_table(
     table: &mut Table,
     told: &mut [u8],
 )
-    requires { ⌜ Coded-right own × (1 ≤ number) × (number ≤ own .n) × (most-columns ≤ length (now told)) ⌝ }
+    requires { ⌜ Coded-right own × (1 ≤ number) × (number ≤ own .n) × (own .n ≤ length (now told)) ⌝ }
     requires { ⌜ Shaped (now table) × Blank-rows (coded-settings own) (now table) ⌝ }
     ensures { λ _. ⌜ Slots-told (coded-settings own) (coded-vector own) number slots (now (table .exit)) (now (told .entry)) (now (told .exit)) ⌝ }
 {

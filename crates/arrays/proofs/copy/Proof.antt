@@ -1,4 +1,4 @@
--- `copy` meets its contract: a width of its own is the number asked for. Assumes nothing.
+-- `copy` meets its contract: the number named to the loop is the number asked for. Assumes nothing.
 use mathlib.Core.Path.{_≡_}
 use native.Mathlib.Omega.{arith}
 use borrow.Author.Needs.{needs}

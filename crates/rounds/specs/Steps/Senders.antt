@@ -84,6 +84,12 @@ pub record Empty-row (s : Settings) (row : List ℕ) : Type 0 where
   pub long : length row ≡ vector-room
   pub blank : values-in s (s .n) row ≡ blanks s
 
+-- a vector and its check values as they are lent
+pub record Own-lent (n t w : ℕ) (vector checks : List ℕ) : Type 0 where
+  pub right : Coded-right (coded n t w vector checks)
+  pub vector-long : length vector ≡ vector-room
+  pub checks-long : length checks ≡ checks-room
+
 -- a slot's row put into a table as row i, and what it tells: every other row is kept, and the last repair is this one, or the one before
 pub record Slot-put (s : Settings) (vs : Vector) (slot : Slot) (i : ℕ) (checks-now : List ℕ) (last last-now : Last) (row-now : List ℕ) (x x-now : Planes) : Type 0 where
   pub shape : Shaped x-now

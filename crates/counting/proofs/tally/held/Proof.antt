@@ -13,9 +13,8 @@ use Rattle.grading.specs.Value.{entries}
 use Rattle.grading.specs.Count.{held-at, held-list}
 use Rattle.counting.specs.Steps.Table.{rows-in}
 use Rattle.counting.specs.Steps.Tally.{All-settled}
-use Rattle.counting.proofs.Stored.{padded-entry}
 use Rattle.counting.proofs.Planes.{value-long}
-use Rattle.counting.proofs.Placed.{Placed, placed-none, placed-next, placed-zeros, placed-held}
+use Rattle.counting.proofs.Placed.{padded-entry, Placed, placed-none, placed-next, placed-zeros, placed-held}
 use Rattle.counting.proofs.Tallied.{held-value, held-blank, held-confidence}
 use Rattle.counting.proofs.tally.held.Statement.{statement}
 use Rattle.counting.proofs.tally.held.Tie as tie

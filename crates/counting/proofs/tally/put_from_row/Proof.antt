@@ -6,10 +6,9 @@ use lib.ListN.{getD}
 use denote.Ref.{now}
 use Rattle.arrays.specs.Array.{Written}
 use Rattle.arrays.proofs.Written.{written-none, written-more, written-to}
-use Rattle.code.specs.Size.{most-columns, vector-room}
-use Rattle.code.proofs.Vectors.Cut.{value-fits}
-use Rattle.code.proofs.ValidSettings.{values-fit}
+use Rattle.code.specs.Size.{vector-room}
 use Rattle.counting.specs.Steps.Table.{byte-in, value-in}
+use Rattle.counting.proofs.Placed.{place-fits}
 use Rattle.counting.proofs.Planes.{value-byte}
 use Rattle.counting.proofs.tally.put_from_row.Statement.{statement}
 use Rattle.counting.proofs.tally.put_from_row.Tie as tie
@@ -22,9 +21,7 @@ abbrev μ-loop : tie.MeasureT-loop
 
 -- the value's place
 room : (s : tie.Start Inv-loop μ-loop) → s .args .k * s .args .w + s .args .w ≤ vector-room
-room s =
-    let a = s .args in
-    omega (arith, value-fits (a .k) most-columns (a .w) (s .pre .2), values-fit most-columns (a .w) (omega arith) (s .pre .0))
+room s = place-fits (s .args .k) (s .args .w) (s .pre .2) (s .pre .0)
 
 mul-at : tie.Need-mul-at Inv-loop μ-loop
 mul-at c = omega (arith, room c)

@@ -3,17 +3,14 @@ use Prim.Native.Nat.{_+_, _*_, _≤_}
 use native.Mathlib.Omega.{arith}
 use denote.Ref.{now}
 use lib.ListN.{length}
-use Rattle.code.specs.Size.{most-columns, vector-room}
-use Rattle.code.proofs.Vectors.Cut.{value-fits}
-use Rattle.code.proofs.ValidSettings.{values-fit}
+use Rattle.code.specs.Size.{vector-room}
 use Rattle.arrays.proofs.Written.{from-start}
+use Rattle.counting.proofs.Placed.{place-fits}
 use Rattle.counting.proofs.vector.put_value.Statement.{statement}
 use Rattle.counting.proofs.vector.put_value.Tie as tie
 
 room : (s : tie.Start) → let size = length (s .args .value .now) in s .args .k * size + size ≤ vector-room
-room s =
-    let size = length (s .args .value .now) in
-    omega (arith, value-fits (s .args .k) most-columns size (s .pre .0), values-fit most-columns size (omega arith) (s .pre .1))
+room s = place-fits (s .args .k) (length (s .args .value .now)) (s .pre .0) (s .pre .1)
 
 mul-copy : tie.Need-mul-copy
 mul-copy c = omega (arith, room (c .before .before))

@@ -60,7 +60,7 @@ unfolding settings-of settings value-size
 put-table-requires c κs =
     let late = c .before .before .before in
     let i = able (start late) in
-    (fine (start late), later late, search needs, shape-zeros, blank-table (settings-of (start late .args .column .who)) (i .few-columns) (i .few-bytes))
+    (fine (start late), later late, i .few-columns, shape-zeros, blank-table (settings-of (start late .args .column .who)) (i .few-columns) (i .few-bytes))
 
 abbrev else-at : tie.After-put-table → tie.Else1
 else-at c = c .before .before .before .before

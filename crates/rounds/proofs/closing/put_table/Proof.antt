@@ -25,7 +25,7 @@ put-table-requires c κs =
     let k = c .before .before .before .before .before in
     let able = inside _ (k .pre .0) in
     let same : w .result .n ≡ k .args .who .n = ap (λ (s : Settings). s .n) (w .ensures .1) in (
-      (w .ensures .0, able .number-low, omega (arith, able .number-high), k .pre .2),
+      (w .ensures .0, able .number-low, omega (arith, able .number-high), omega (arith, k .pre .2)),
       (k .pre .3, subst (λ (s : Settings). Blank-rows s (now (k .args .table))) (sym (w .ensures .1)) (k .pre .4)),
     )
 

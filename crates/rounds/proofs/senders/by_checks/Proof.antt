@@ -17,7 +17,7 @@ use Rattle.rounds.proofs.senders.by_checks.Tie as tie
 -- the settings are within bounds
 few : (c : tie.Start) → Sizes (settings (c .args .n) (c .args .t) (c .args .w))
 unfolding coded-settings
-few c = sizes _ (c .pre .0 .0 .fine)
+few c = sizes _ (c .pre .0 .right .fine)
 
 vector-size-requires : tie.Need-vector-size-requires
 unfolding settings
@@ -56,9 +56,9 @@ returns c =
     let a = k .args in
     let h = held z in
     let came = z .before .before .before .before .shared-slice-known3 in
-    repaired-again (a .n) (a .t) (a .w) _ _ (a .vector .now) (a .own .now) (a .checks .now) (a .row .now) (k .pre .0 .0 .fine) (z .before .vector-size .ensures .0)
-    (z .operand-size .ensures .0) (h .vector) (h .checks) (k .pre .1 .0) (bytes-every (a .checks .now) (λ i. came .given i .fits)) (k .pre .0 .0 .checked) (h .row)
-    (k .pre .1 .2) (a .last-checks .now) (a .last) _ _ _ (c .before .before .repair-again .ensures)
+    repaired-again (a .n) (a .t) (a .w) _ _ (a .vector .now) (a .own .now) (a .checks .now) (a .row .now) (k .pre .0 .right .fine) (z .before .vector-size .ensures .0)
+    (z .operand-size .ensures .0) (h .vector) (h .checks) (k .pre .1 .0) (bytes-every (a .checks .now) (λ i. came .given i .fits)) (k .pre .0 .right .checked) (h .row)
+    (k .pre .1 .1 .blank) (a .last-checks .now) (a .last) _ _ _ (c .before .before .repair-again .ensures)
 
 pub by-checks-spec : {M : Type 1} → statement M
 by-checks-spec =

@@ -10,7 +10,8 @@ use Rattle.code.specs.Size.{vector-room, checks-room}
 use Rattle.code.proofs.ValidSettings.{Sizes, sizes}
 use Rattle.rounds.specs.Steps.Senders.{coded-settings, coded-vector}
 use Rattle.rounds.proofs.SenderRow.{vector-fits}
-use Rattle.rounds.proofs.TableRows.{zeros-empty, Put, put-own, last-apart, last-inside, put-passed, put-slot, put-all}
+use Rattle.rounds.proofs.SlotRow.{zeros-empty}
+use Rattle.rounds.proofs.TableRows.{Put, In-range, put-own, last-apart, last-inside, put-passed, put-slot, put-all}
 use Rattle.rounds.proofs.senders.put_table.Statement.{statement}
 use Rattle.rounds.proofs.senders.put_table.Tie as tie
 
@@ -29,10 +30,8 @@ small : (c : tie.Start Inv-loop μ-loop) → c .args .own .n * c .args .own .w �
 unfolding coded-settings
 small c = vector-fits (c .args .own .n) (c .args .own .t) (c .args .own .w) (c .pre .0 .0 .fine)
 
--- each column has a place for what it tells
-room : (c : tie.Start Inv-loop μ-loop) → c .args .own .n ≤ length (c .args .told .now)
-unfolding coded-settings settings
-room c = omega (arith, few c, c .pre .0 .3)
+range : (c : tie.Start Inv-loop μ-loop) → In-range (c .args .own) (c .args .number) (c .args .told .now)
+range c = record { low = c .pre .0 .1; high = c .pre .0 .2; room = c .pre .0 .3 }
 
 cast-n : tie.Need-cast-n Inv-loop μ-loop
 unfolding coded-settings settings
@@ -66,7 +65,7 @@ sub-told : tie.Need-sub-told Inv-loop μ-loop
 sub-told c = omega (arith, c .before .before .before .before .before .before .before .before .pre .0)
 
 slice-write-told : tie.Need-slice-write-told Inv-loop μ-loop
-slice-write-told c = let s = c .before .before .before .before .before .before .before .before in omega (arith, room s, s .pre .0)
+slice-write-told c = omega (arith, range (c .before .before .before .before .before .before .before .before))
 
 untried-requires : tie.Need-untried-requires Inv-loop μ-loop
 untried-requires c κs = tt
@@ -81,12 +80,16 @@ loop-holds c =
     let a = k .args in
     let long = vector-long (c .before .before .before .before .before .before .before) in (
       omega arith,
-      put-own (a .own) (a .number) (a .t3) (a .told .now) (k .pre .0 .1) (k .pre .0 .2) (room k) (a .table .now) _ _ _ (k .pre .0 .0) (omega (arith, small k)) (own-long (c .before .before .before .before .before .before)) (k .pre .1 .1)
+      put-own (a .own) (a .number) (a .t3) (a .told .now) (range k) (a .table .now) _ _ _ (k .pre .0 .0) (omega (arith, small k)) (own-long (c .before .before .before .before .before .before)) (k .pre .1 .1)
           (c .before .before .put-row .ensures) (c .before .untried .ensures .0) (c .before .untried .ensures .1) refl (zeros-empty _ (small k)),
     )
 
+-- the own vector and checks, as they were read
+abbrev read : tie.At-loop Inv-loop μ-loop → tie.After-own-checks Inv-loop μ-loop
+read c = c .before .before .before .before .before .before .before
+
 abbrev start : tie.At-loop Inv-loop μ-loop → tie.Start Inv-loop μ-loop
-start c = c .before .before .before .before .before .before .before .before .before .before .before
+start c = read c .before .before .before .before
 
 add-if1 : tie.Need-add-if1 Inv-loop μ-loop
 unfolding coded-settings settings
@@ -101,10 +104,10 @@ unfolding coded-settings settings
 array-copy-out-slot c = omega (arith, few (start (c .before .before)))
 
 slice-aggregate-put-slot : tie.Need-slice-aggregate-put-slot Inv-loop μ-loop
-slice-aggregate-put-slot c = sym (vector-long (c .before .before .before .before .before .before .before .before .before .before .before .before))
+slice-aggregate-put-slot c = sym (vector-long (read (c .before .before .before .before) .before))
 
 slice-aggregate-put-slot-2 : tie.Need-slice-aggregate-put-slot-2 Inv-loop μ-loop
-slice-aggregate-put-slot-2 c = sym (own-long (c .before .before .before .before .before .before .before .before .before .before .before .before))
+slice-aggregate-put-slot-2 c = sym (own-long (read (c .before .before .before .before .before)))
 
 slice-aggregate-put-slot-3 : tie.Need-slice-aggregate-put-slot-3 Inv-loop μ-loop
 slice-aggregate-put-slot-3 c = sym (c .before .before .before .before .before .before .loop .inv .1 .memo .long)
@@ -119,9 +122,9 @@ put-slot-requires c κs =
     let put = l .inv .1 in
     let inside : l .i < a .own .n = omega (arith, c .before .before .before .before .before .before .before .loop-test) in
     let other = c .before .before .before .before .before .before .if1 .taken in (
-      (k .pre .0 .0, vector-long (c .before .before .before .before .before .before .before .before .before .before .before .before .before .before .before .before), own-long (c .before .before .before .before .before .before .before .before .before .before .before .before .before .before .before)),
+      record { right = k .pre .0 .0; vector-long = vector-long (read at .before); checks-long = own-long (read at) },
       (
-        (inside, last-inside (a .own) (a .number) (a .t3) (a .told .now) (k .pre .0 .1) (k .pre .0 .2) (room k) (l .i) _ _ _ _ _ put (l .inv .0), last-apart (a .own) (a .number) (a .t3) (a .told .now) (k .pre .0 .1) (k .pre .0 .2) (room k) (l .i) _ _ _ _ _ put other, put .memo),
+        (inside, last-inside (a .own) (a .number) (a .t3) (a .told .now) (range k) (l .i) _ _ _ _ _ put (l .inv .0), last-apart (a .own) (a .number) (a .t3) (a .told .now) (range k) (l .i) _ _ _ _ _ put other, put .memo),
         (put .empty, put .shape, put .ahead (l .i) (omega arith) inside other),
       ),
     )
@@ -130,7 +133,7 @@ slice-write-told-2 : tie.Need-slice-write-told-2 Inv-loop μ-loop
 slice-write-told-2 c =
     let at = c .before .before .before .before .before .before .before .before .before .before in
     let k = start at in
-    omega (arith, c .before .before .before .before .before .before .before .before .before .loop-test, at .loop .inv .1 .told-long, length-set (k .args .told .now) (k .args .number - 1) 0, room k)
+    omega (arith, c .before .before .before .before .before .before .before .before .before .loop-test, at .loop .inv .1 .told-long, length-set (k .args .told .now) (k .args .number - 1) 0, range k)
 
 add-i : tie.Need-add-i Inv-loop μ-loop
 unfolding coded-settings settings
@@ -152,10 +155,10 @@ loop-again c =
       ⊎-elim
           (λ w.
           rw (w .9, w .10, w .11, w .12, w .13)
-          (put-slot (a .own) (a .number) (a .t3) (a .told .now) (k .pre .0 .1) (k .pre .0 .2) (room k) (l .i) _ _ _ _ _ put (w .0 .taken) inside _ _ _ _ (w .7 .ensures)))
+          (put-slot (a .own) (a .number) (a .t3) (a .told .now) (range k) (l .i) _ _ _ _ _ put (w .0 .taken) inside _ _ _ _ (w .7 .ensures)))
           (λ w.
           rw (w .1, w .2, w .3, w .4, w .5)
-          (put-passed (a .own) (a .number) (a .t3) (a .told .now) (k .pre .0 .1) (k .pre .0 .2) (room k) (l .i) _ _ _ _ _ put (w .0 .left)))
+          (put-passed (a .own) (a .number) (a .t3) (a .told .now) (range k) (l .i) _ _ _ _ _ put (w .0 .left)))
           (c .if1 .came),
     )
 
@@ -169,7 +172,7 @@ returns c =
     let a = k .args in
     let l = at .loop in
     let last : l .i ≡ a .own .n = omega arith in
-    put-all (a .own) (a .number) (a .t3) (a .told .now) (k .pre .0 .1) (k .pre .0 .2) (room k) (l .table) (l .told) (l .checks) (l .last) (l .row) (rw last at (l .inv .1))
+    put-all (a .own) (a .number) (a .t3) (a .told .now) (range k) (l .table) (l .told) (l .checks) (l .last) (l .row) (rw last at (l .inv .1))
 
 pub put-table-spec : {M : Type 1} → statement M
 put-table-spec =

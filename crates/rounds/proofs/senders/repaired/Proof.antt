@@ -12,13 +12,13 @@ use Rattle.code.specs.Entry.{values-in}
 use Rattle.code.proofs.ValidSettings.{sizes}
 use Rattle.record.specs.Frame.{header-size, operand-size, operand-in}
 use Rattle.rounds.specs.Steps.Senders.{coded-settings, checks-size, Repaired-again}
-use Rattle.rounds.proofs.SenderRow.{again-same}
+use Rattle.rounds.proofs.SenderRow.{same-checks}
 use Rattle.rounds.proofs.senders.repaired.Statement.{statement}
 use Rattle.rounds.proofs.senders.repaired.Tie as tie
 
 operand-size-requires : tie.Need-operand-size-requires
 unfolding coded-settings settings
-operand-size-requires c κs = let z = sizes _ (c .before .before .before .before .pre .0 .0 .fine) in (omega arith, z .few-bytes)
+operand-size-requires c κs = let z = sizes _ (c .before .before .before .before .pre .0 .right .fine) in (omega arith, z .few-bytes)
 
 -- the checks' size, for which frame and last checks have room
 record Sized (c : tie.After-operand-size) : Type 0 where
@@ -50,7 +50,7 @@ unfolding coded-settings settings operand-size check-count value-size
 by-checks-requires c κs =
     let z = c .before .before .before .before .before in
     let k = z .before .before .before .before .before in
-    (k .pre .0, (part-long z ∙ z .operand-size .ensures .0, k .pre .1 .1, k .pre .1 .2))
+    (k .pre .0, (part-long z ∙ z .operand-size .ensures .0, k .pre .1 .1))
 
 copy-requires : tie.Need-copy-requires
 copy-requires c κs = let z = sized (c .before .before .before .before .before .before .before .before .before .before .before .before) in (omega (arith, z .last), z .frame)
@@ -92,7 +92,7 @@ returns c =
 returns-2 : tie.Need-returns-2
 returns-2 c =
     let f = found (c .before .before .before .before) in
-    record { long = refl; kept = sym (again-same _ _ _ _ _ _ _ _ _ (c .if1 .left) f .0); found = f }
+    record { long = refl; kept = sym (same-checks _ _ _ _ _ _ _ _ _ (c .if1 .left) f); found = f }
 
 pub repaired-spec : {M : Type 1} → statement M
 repaired-spec =
