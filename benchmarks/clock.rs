@@ -24,16 +24,41 @@ pub fn median(mut times: Vec<f64>) -> f64 {
     times[times.len() / 2]
 }
 
-/// The median over so many turns of what each program says that it took. In each turn every program runs twice, and the second time
-/// counts; who is first goes round.
-pub fn in_turn(turns: usize, programs: &mut [&mut dyn FnMut(usize) -> f64]) -> Vec<f64> {
-    let mut times = vec![Vec::with_capacity(turns); programs.len()];
-    for turn in 0..turns {
-        for i in 0..programs.len() {
-            let which = (turn + i) % programs.len();
-            programs[which](turn);
-            times[which].push(programs[which](turn));
+/// What programs that take turns say that they took. In each turn every program runs twice, and the second time counts; who is first goes
+/// round.
+pub struct Timed {
+    turns: usize,
+    times: Vec<Vec<f64>>,
+}
+
+impl Timed {
+    pub fn new(programs: usize) -> Timed {
+        Timed {
+            turns: 0,
+            times: vec![Vec::new(); programs],
         }
     }
-    times.into_iter().map(median).collect()
+
+    /// So many turns more.
+    pub fn go_on(&mut self, turns: usize, programs: &mut [&mut dyn FnMut(usize) -> f64]) {
+        for turn in self.turns..self.turns + turns {
+            for i in 0..programs.len() {
+                let which = (turn + i) % programs.len();
+                programs[which](turn);
+                self.times[which].push(programs[which](turn));
+            }
+        }
+        self.turns += turns;
+    }
+
+    pub fn medians(&self) -> Vec<f64> {
+        self.times.iter().cloned().map(median).collect()
+    }
+}
+
+/// The medians over so many turns at one go.
+pub fn in_turn(turns: usize, programs: &mut [&mut dyn FnMut(usize) -> f64]) -> Vec<f64> {
+    let mut timed = Timed::new(programs.len());
+    timed.go_on(turns, programs);
+    timed.medians()
 }

@@ -12,6 +12,8 @@ use std::hint::black_box;
 pub const CALLS: usize = 1000;
 pub const EXCHANGES: usize = 50;
 pub const INPUTS: usize = 16;
+/// The calls and exchanges of a case are spread over so many passes through all cases, since a machine is slower now and then.
+pub const PASSES: usize = 5;
 
 pub const GREATEST: Group = Group { n: 31, t: 10, w: 8 };
 pub const SMALLEST: Group = Group { n: 4, t: 1, w: 4 };

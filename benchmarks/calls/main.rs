@@ -14,8 +14,8 @@ mod linear;
 mod register;
 mod scenario;
 
-use cases::{CALLS, CASES, EXCHANGED, EXCHANGES, Exchanges, GREATEST, Prepared};
-use clock::{in_turn, warm_up};
+use cases::{CALLS, CASES, Case, EXCHANGED, EXCHANGES, Exchanges, GREATEST, PASSES, Prepared};
+use clock::{Timed, warm_up};
 use column::Group;
 use sajowemi::Column;
 
@@ -32,8 +32,28 @@ const GROUPS: [Group; 6] = [
     Group { n: 32, t: 10, w: 8 },
 ];
 
-fn main() {
-    warm_up();
+/// A case of a group, and how long its calls took so far.
+struct Cell {
+    prepared: Prepared<Column>,
+    timed: Timed,
+}
+
+impl Cell {
+    fn new(case: Case, group: Group) -> Cell {
+        Cell {
+            prepared: Prepared::new(case, group),
+            timed: Timed::new(1),
+        }
+    }
+
+    fn go_on(&mut self) {
+        let prepared = &self.prepared;
+        self.timed
+            .go_on(CALLS / PASSES, &mut [&mut |turn| prepared.time(turn)]);
+    }
+}
+
+fn time_calls() {
     println!("Microseconds a call, medians of {CALLS}, through the safe Rust crate:");
     println!();
     print!("| Call; n, t, w: |");
@@ -42,16 +62,24 @@ fn main() {
     }
     println!();
     println!("|{}", "---|".repeat(1 + GROUPS.len()));
-    for case in CASES {
+    let mut cells: Vec<Vec<Cell>> = CASES
+        .iter()
+        .map(|case| GROUPS.map(|group| Cell::new(*case, group)).into())
+        .collect();
+    for _ in 0..PASSES {
+        cells.iter_mut().flatten().for_each(Cell::go_on);
+    }
+    for (case, cells) in CASES.iter().zip(&cells) {
         print!("| {} |", case.name);
-        for group in GROUPS {
-            let prepared = Prepared::<Column>::new(case, group);
-            let times = in_turn(CALLS, &mut [&mut |turn| prepared.time(turn)]);
-            print!(" {:.2} |", times[0]);
+        for cell in cells {
+            print!(" {:.2} |", cell.timed.medians()[0]);
         }
         println!();
     }
     println!();
+}
+
+fn time_exchanges() {
     let Group { n, t, w } = GREATEST;
     println!(
         "A whole exchange of {n} columns (t = {t}, w = {w}), all calls of all columns, milliseconds, medians of {EXCHANGES}:"
@@ -59,9 +87,22 @@ fn main() {
     println!();
     println!("| | Milliseconds |");
     println!("|---|---|");
-    for (name, wrong) in EXCHANGED {
-        let mut exchanges = Exchanges::<Column>::new(GREATEST, wrong);
-        let times = in_turn(EXCHANGES, &mut [&mut |turn| exchanges.time(turn)]);
-        println!("| {name} | {:.2} |", times[0] / 1000.0);
+    let mut cells = EXCHANGED.map(|(name, wrong)| {
+        let exchanges = Exchanges::<Column>::new(GREATEST, wrong);
+        (name, exchanges, Timed::new(1))
+    });
+    for _ in 0..PASSES {
+        for (_, exchanges, timed) in &mut cells {
+            timed.go_on(EXCHANGES / PASSES, &mut [&mut |turn| exchanges.time(turn)]);
+        }
     }
+    for (name, _, timed) in &cells {
+        println!("| {name} | {:.2} |", timed.medians()[0] / 1000.0);
+    }
+}
+
+fn main() {
+    warm_up();
+    time_calls();
+    time_exchanges();
 }
