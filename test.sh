@@ -17,7 +17,8 @@ count() { # STATUS NAME
 
 log=$(mktemp)
 trap 'rm -f "$log"' EXIT
-rt ci 2>&1 | tee "$log"
+# One check more at a time than there are cores, so that none is idle while an edit is prepared.
+RT_JOBS=${RT_JOBS:-$(($(nproc) + 1))} rt ci 2>&1 | tee "$log"
 status=${PIPESTATUS[0]}
 last=$(tail -n 1 "$log")
 if [[ $last =~ ^([0-9]+)\ passed,\ ([0-9]+)\ failed$ ]]; then
