@@ -1,5 +1,5 @@
 -- How the register works out check values.
-pub mod Feedbacks
+pub mod Factors
 pub mod Division
 pub mod CheckValues
 pub mod Entry

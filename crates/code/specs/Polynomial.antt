@@ -2,10 +2,10 @@
 -- A polynomial is the list of its coefficients, lowest power first; zeros at its end change nothing.
 use mathlib.Core.Path.{_≡_}
 use mathlib.Core.List.{List, [], _∷_}
-use Prim.Native.Nat.{ℕ, zero, suc, _+_, _*_, _≤_, _<_}
-use lib.ListN.{length, getD, take, drop}
+use Prim.Native.Nat.{ℕ, zero, suc, _+_, _<_}
+use lib.ListN.{length, getD}
 use Rattle.field.specs.Field.{plus, times, power}
-use Rattle.code.specs.Size.{most-bad, most-checks}
+use Rattle.code.specs.Size.{most-checks}
 
 -- the value at x
 unfoldable pub eval : List ℕ → (x : ℕ) → ℕ
@@ -46,16 +46,6 @@ times-factor c ps = added (0 ∷ ps) (scaled c ps)
 unfoldable pub generator : (roots : ℕ) → List ℕ
 generator zero = 1 ∷ []
 generator (suc k) = times-factor (root k) (generator k)
-
--- what the register feeds back for so many roots: each of them times its value there is 1
-pub record Feedback (roots : ℕ) (bytes : List ℕ) : Type 0 where
-  pub long : length bytes ≡ most-checks
-  pub value : (i : ℕ) → i < roots → times (root i) (eval (take roots bytes) (root i)) ≡ 1
-
--- the table of them, a row for each number of bad columns
-pub record Feedbacks (table : List ℕ) : Type 0 where
-  pub many : length table ≡ most-checks * (most-bad + 1)
-  pub row : (t i : ℕ) → t ≤ most-bad → i < 2 * t → times (root i) (eval (take (2 * t) (drop (most-checks * t) table)) (root i)) ≡ 1
 
 -- the remainder by a divisor: shorter than it, and with the divisor times a quotient of bytes the dividend, coefficient by coefficient
 pub record Remainder (divisor dividend remainder : List ℕ) : Type 0 where

@@ -14,6 +14,10 @@ most-bad = 10
 abbrev pub most-checks : ℕ
 most-checks = 2 * most-bad
 
+-- the generator's coefficients: one more than its roots
+abbrev pub generator-room : ℕ
+generator-room = most-checks + 1
+
 -- the places of a plane: one for each column and each check
 abbrev pub most-places : ℕ
 most-places = most-columns + most-checks

@@ -1,5 +1,4 @@
 // The Reed-Solomon code over byte planes: check values.
-mod feedback;
 pub mod planes;
 mod register;
 pub mod roots;
@@ -11,6 +10,7 @@ ghost use Prim.Native.Nat.{_*_, _≤_};
 ghost use lib.ListN.{length};
 ghost use Rattle.code.specs.Settings.{settings, settings-refusal};
 ghost use Rattle.code.specs.Entry.{Checks-says, Checks-put};
+use crate::sizes::GENERATOR_ROOM;
 use lanes::ROW_WIDTH;
 
 // The check values of a vector of n values, in the first 2t·w bytes of the output: 0, or the refusal 1, 2, 3 or 18.
@@ -39,8 +39,13 @@ fn put_checks(n: usize, t: usize, w: usize, vector: &[u8], output: &mut [u8])
     requires { ⌜ (settings-refusal (settings n t w) ≡ 0) × (length (now vector) ≡ n * w) × (2 * t * w ≤ length (now output)) ⌝ }
     ensures { λ _. ⌜ Checks-put (settings n t w) (now (vector .entry)) (now (output .entry)) (now (output .exit)) ⌝ }
 {
+    let powers = field::powers();
+    let logarithms = field::logarithms();
+    let roots = roots::roots();
     let count = 2 * t;
-    let feedback = feedback::feedback(t);
+    let mut generator = [0u8; GENERATOR_ROOM];
+    register::generator(&powers, &logarithms, &roots, count, &mut generator);
+    let feedback = register::feedback(&powers, &logarithms, &generator, count);
     let mut rows = planes::load(vector, n, w);
     let end = ROW_WIDTH * (n + count);
     register::divide(&feedback[..count], &mut rows[..end], n);

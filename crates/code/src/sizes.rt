@@ -9,6 +9,9 @@ pub const MOST_BAD: usize = 10;
 // Two check values for each bad column.
 pub const MOST_CHECKS: usize = 2 * MOST_BAD;
 
+// The generator's coefficients: one more than its roots.
+pub const GENERATOR_ROOM: usize = MOST_CHECKS + 1;
+
 // The places of a plane: one for each column and each check.
 pub const MOST_PLACES: usize = MOST_COLUMNS + MOST_CHECKS;
 

@@ -9,13 +9,15 @@ use native.Mathlib.Omega.{arith}
 use native.Mathlib.Decide.{decLt}
 use lib.ListN.{length, getD, take, drop, length-drop, length-reverse, List·getD-append, List·getD-eq-default}
 use lib.Seq.{ext-getD, getD-take, getD-drop, getD-append-add, length-take-le}
-use Rattle.field.specs.Field.{times}
+use Rattle.field.specs.Field.{times, inverse}
+use Rattle.code.specs.Size.{most-checks}
 use Rattle.lanes.specs.Lanes.{row-width, in-row, lane}
 use Rattle.code.specs.Settings.{Settings, settings, settings-refusal, check-count, value-size}
-use Rattle.code.specs.Polynomial.{eval, root, Feedback}
+use Rattle.code.specs.Polynomial.{eval, root, generator}
 use Rattle.code.specs.Plane.{is-codeword}
 use Rattle.code.specs.Vector.{plane, cut}
 use Rattle.code.specs.Entry.{values-in, Checks-put}
+use Rattle.arrays.specs.Array.{Filled}
 use Rattle.code.specs.Steps.Rows.{Divided, Loaded, Stored}
 use Rattle.arrays.proofs.Bytes.{Bytes, bytes-drop}
 use Rattle.code.proofs.Polynomials.Arithmetic.{eval-ext}
@@ -24,6 +26,7 @@ use Rattle.code.proofs.ValidSettings.{Sizes, sizes, value-in-row}
 use Rattle.code.proofs.Vectors.Planes.{plane-length, plane-bytes, checked-back}
 use Rattle.lanes.proofs.Lane.{lane-length, lane-at, lane-bytes}
 use Rattle.code.proofs.Vectors.Cut.{cut-length, cut-values, plane-cut, in-front-cut}
+use Rattle.code.proofs.Encoding.Factors.{feedback-root}
 use Rattle.code.proofs.Encoding.Division.{divided-codeword}
 
 pub getD-reverse : (l : List ℕ) (i : ℕ) → i < length l → getD (reverse l) i 0 ≡ getD l (length l - 1 - i) 0
@@ -93,7 +96,7 @@ module _ (n count size p : ℕ) (vector : List ℕ) (inside : p < size) (small :
 pub encoded :
     (s : Settings) (p : ℕ) (vector hs loaded part divided rows out now : List ℕ) → settings-refusal s ≡ 0 → p < value-size s → value-size s ≤ row-width →
     length vector ≡ s .n * value-size s → Bytes vector → length hs ≡ check-count s →
-    ((i : ℕ) → i < check-count s → times (root i) (eval hs (root i)) ≡ 1) →
+    ((j : ℕ) → j < check-count s → getD hs j 0 ≡ times (getD (generator (check-count s)) (j + 1) 0) (inverse (getD (generator (check-count s)) 0 0))) →
     Loaded (s .n) (s .n) (value-size s) vector loaded → ((i : ℕ) → i < row-width * (s .n + check-count s) → getD part i 0 ≡ getD loaded i 0) →
     Divided (s .n) (s .n + check-count s) hs part divided →
     ((i : ℕ) → i < row-width * (s .n + check-count s) → getD rows i 0 ≡ getD divided i 0) →
@@ -106,7 +109,7 @@ encoded s p vector hs loaded part divided rows out now q h small l b e feed d sa
     (plane-bytes p (value-size s) _ (cut-values (s .n) (value-size s) vector (omega arith) b)) rest-length
     (bytes-drop (s .n) _ (lane-bytes p (s .n + check-count s) divided (v .bytes)))
     (λ i k.
-    v .value p (root i) (omega arith) (root-lt i) (feed i k)
+    v .value p (root i) (omega arith) (root-lt i) (feedback-root (check-count s) i hs k e feed)
     ∙ loaded-value (s .n) (check-count s) (value-size s) p vector h small loaded part d same (root i) (root-lt i))
   where
     rest : List ℕ
@@ -118,7 +121,7 @@ encoded s p vector hs loaded part divided rows out now q h small l b e feed d sa
 -- the whole vector: every plane has its checks, and they stand in front of the output
 pub checks-put :
     (n t w : ℕ) (vector feedback loaded divided rows out now : List ℕ) → settings-refusal (settings n t w) ≡ 0 → length vector ≡ n * w → Bytes vector →
-    Feedback (2 * t) feedback → Loaded n n w vector loaded →
+    Filled most-checks (2 * t) (λ j. times (getD (generator (2 * t)) (j + 1) 0) (inverse (getD (generator (2 * t)) 0 0))) feedback → Loaded n n w vector loaded →
     Divided n (n + length (take (2 * t) feedback)) (take (2 * t) feedback) (take (row-width * (n + 2 * t)) loaded) divided →
     rows ≡ divided ++ drop (row-width * (n + 2 * t)) loaded → Stored (2 * t) n (2 * t) w rows out now → 2 * t * w ≤ length out → Bytes now →
     Checks-put (settings n t w) vector out now
@@ -131,7 +134,7 @@ checks-put n t w vector feedback loaded divided rows out now q l b feed d v back
         values = cut-values (2 * t) w now (omega (arith, st .long)) c;
         planes = λ p h.
             encoded s p vector hs loaded (take end loaded) divided rows out now q h (value-in-row s z) l b long
-            (feed .value) d (λ i k. getD-take end loaded i 0 k)
+            (λ j k. getD-take (2 * t) feedback j 0 k ∙ feed .new j k) d (λ i k. getD-take end loaded i 0 k)
             (subst (λ (m : ℕ). Divided n (n + m) hs (take end loaded) divided) long v)
             (λ i k. ap (λ (r : List ℕ). getD r i 0) back ∙ List·getD-append divided (drop end loaded) 0 i (omega (arith, v .long, part-length))) st;
       }),

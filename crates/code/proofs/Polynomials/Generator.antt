@@ -1,5 +1,6 @@
 -- The generator is built factor by factor, so each of its laws is an induction over the roots. It is 0 at every root,
--- because one of its factors is; one more factor makes it one coefficient longer and keeps the 1 on top. Assumes nothing.
+-- because one of its factors is; one more factor makes it one coefficient longer and keeps the 1 on top; and its lowest
+-- coefficient is the product of the roots, powers of 2, of which none is 0. Assumes nothing.
 use mathlib.Core.Path.{_≡_, refl, sym, _∙_, ap, ap₂}
 use mathlib.Core.List.{List, _∷_}
 use Prim.Native.Nat.{ℕ, zero, suc, _+_, _<_}
@@ -9,18 +10,23 @@ use lib.Dec.{T, eqb, eqb→eq}
 use lib.ListN.{length, getD, List·getD-eq-default}
 use Rattle.field.specs.Field.{plus, times}
 use Rattle.field.proofs.Test.{below, every}
-use Rattle.field.proofs.Xor.{plus-self, plus-lt, plus-zero}
-use Rattle.field.proofs.Times.{zero-times, times-zero}
-use Rattle.field.proofs.Power.{power-lt, doublings, power-doublings}
+use Rattle.field.proofs.Xor.{plus-self, plus-lt, plus-zero, zero-plus}
+use Rattle.field.proofs.Times.{times-lt, zero-times, times-zero}
+use Rattle.field.proofs.Power.{power-lt, power-nonzero, doublings, power-doublings}
+use Rattle.field.proofs.Logarithm.{no-zero-divisors}
 use Rattle.code.specs.Size.{most-checks}
 use Rattle.code.specs.Polynomial.{eval, scaled, first-exponent, root, Roots, times-factor, generator}
-use Rattle.arrays.proofs.Bytes.{Bytes}
+use Rattle.arrays.proofs.Bytes.{Bytes, byte-at}
 use Rattle.code.proofs.Polynomials.Arithmetic.{eval-factor, getD-added, getD-scaled, bytes-added, bytes-scaled, length-added, length-scaled}
 
--- the roots are bytes
+-- the roots are bytes but 0
 pub root-lt : (i : ℕ) → root i < 256
 unfolding root
 root-lt i = power-lt 2 (first-exponent + i)
+
+pub root-nonzero : (i : ℕ) → root i ≡ 0 → ⊥
+unfolding root
+root-nonzero i = power-nonzero (first-exponent + i)
 
 pub roots-tested : (table : List ℕ) → length table ≡ most-checks → T (every (λ i. eqb (getD table i 0) (doublings (first-exponent + i) 1)) most-checks) → Roots table
 unfolding root
@@ -62,7 +68,7 @@ generator-root (suc m) i h = eval-factor (root m) (generator m) (root i) (root-l
     go before (yes e) = rw (e, plus-self) (zero-times _)
     go before (no e) = ap (times (plus (root i) (root m))) (before (omega arith)) ∙ times-zero _ (plus-lt _ _)
 
--- the highest coefficient is 1
+-- the highest coefficient is 1, the lowest is not 0
 pub generator-leading : (m : ℕ) → getD (generator m) m 0 ≡ 1
 unfolding generator
 generator-leading zero = refl
@@ -71,3 +77,11 @@ generator-leading (suc m) =
     ∙ ap₂ plus (generator-leading m)
     (ap (times (root m)) (List·getD-eq-default (generator m) 0 (omega (arith, generator-length m))) ∙ times-zero (root m) (root-lt m))
     ∙ plus-zero 1 (omega arith)
+
+pub generator-constant : (m : ℕ) → getD (generator m) 0 0 ≡ 0 → ⊥
+unfolding generator
+generator-constant zero e = omega arith
+generator-constant (suc m) e =
+    generator-constant m
+    (no-zero-divisors (root m) (getD (generator m) 0 0) (root-lt m) (byte-at (generator m) 0 (generator-bytes m))
+    (sym (getD-factor (root m) (generator m) 0 (root-lt m) (generator-bytes m) ∙ zero-plus _ (times-lt _ _)) ∙ e) (root-nonzero m))

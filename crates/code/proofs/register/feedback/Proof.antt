@@ -1,0 +1,48 @@
+-- `feedback` meets its contract. Assumes nothing.
+use mathlib.Core.Path.{_≡_, refl, _∙_, ap}
+use Prim.Native.Nat.{_+_, _-_, _≤_}
+use native.Mathlib.Omega.{arith}
+use lib.ListN.{getD}
+use borrow.Author.Needs.{needs}
+use Rattle.arrays.specs.Array.{Filled}
+use Rattle.arrays.proofs.Written.{filled-none, filled-more, filled-to}
+use Rattle.field.specs.Field.{times, inverse}
+use Rattle.code.specs.Size.{most-checks}
+use Rattle.code.proofs.register.feedback.Statement.{statement}
+use Rattle.code.proofs.register.feedback.Tie as tie
+
+abbrev Inv-loop : tie.InvT-loop
+Inv-loop powers logarithms generator many lowest rest₀ j₀ rest j =
+    (j ≤ many) × Filled most-checks j (λ k. times (getD generator (k + 1) 0) (inverse (getD generator 0 0))) rest
+
+abbrev μ-loop : tie.MeasureT-loop
+μ-loop powers logarithms generator many lowest rest₀ j₀ rest j = many - j
+
+loop-holds : tie.Need-loop-holds Inv-loop μ-loop
+loop-holds c = (omega arith, filled-none most-checks _ _ refl)
+
+loop-again : tie.Need-loop-again Inv-loop μ-loop
+loop-again c =
+    let l = c .before .before .before in
+    (omega arith, filled-more most-checks _ _ _ _ (l .loop .inv .1) (omega arith) (c .product-by .ensures ∙ ap (times _) (l .before .inverse-by .ensures)))
+
+returns : tie.Need-returns Inv-loop μ-loop
+returns c = filled-to (let e : c .before .loop .j ≡ _ = omega arith in e) (c .before .loop .inv .1)
+
+pub feedback-spec : {M : Type 1} → statement M
+feedback-spec =
+    tie.close
+    (tie.spec
+    Inv-loop
+    μ-loop
+    (λ c. omega arith)
+    (λ c κs. search needs)
+    loop-holds
+    (λ c. omega arith)
+    (λ c. omega arith)
+    (λ c κs. search needs)
+    (λ c. omega arith)
+    (λ c. omega arith)
+    (λ c. omega arith)
+    loop-again
+    returns)
