@@ -36,7 +36,7 @@ pub fn decode(
     ensures { λ r. ⌜ Decoded planes (settings n t planes) (now (difference .entry)) (r .left) (r .tried) (r .weighted) (r .turns) ⌝ }
 {
     let count = 2 * t;
-    let sums = sums::rows::syndromes(difference, count);
+    let sums = sums::rows::syndromes(powers, logarithms, difference, count);
     let sought = locators::seek_all(powers, logarithms, &sums, count, t, planes);
     let rows = sought.rows;
     let roots = sought.roots;

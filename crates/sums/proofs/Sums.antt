@@ -2,4 +2,3 @@
 pub mod Terms
 pub mod CheckRows
 pub mod CheckSums
-pub mod RootPowers

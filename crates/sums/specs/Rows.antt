@@ -3,10 +3,11 @@ use mathlib.Core.Path.{_≡_}
 use mathlib.Core.List.{List}
 use Prim.Native.Nat.{ℕ, _+_, _*_, _-_, _≤_, _<_}
 use lib.ListN.{length, getD}
+use Rattle.arrays.specs.Array.{Filled}
 use Rattle.field.specs.Field.{plus, power}
 use Rattle.code.specs.Size.{most-checks, check-rows}
 use Rattle.lanes.specs.Lanes.{row-width, in-row, lane}
-use Rattle.code.specs.Polynomial.{root}
+use Rattle.code.specs.Polynomial.{first-exponent, root}
 use Rattle.code.specs.Plane.{summed}
 
 -- two lists of values of so many bytes added into rows, as many as the first number says; every other byte is 0
@@ -17,10 +18,19 @@ pub record Values-added (many size : ℕ) (own checks rows : List ℕ) : Type 0 
   pub spare : (c p : ℕ) → size ≤ p → p < row-width → getD rows (in-row c p) 0 ≡ 0
   pub beyond : (i : ℕ) → row-width * many ≤ i → getD rows i 0 ≡ 0
 
--- the table of the powers of the roots, a row for each exponent
-pub record Root-powers (table : List ℕ) : Type 0 where
-  pub many : length table ≡ most-checks * most-checks
-  pub entry : (e i : ℕ) → e < most-checks → i < most-checks → getD table (most-checks * e + i) 0 ≡ power (root i) e
+-- the logarithms of the twenty roots
+abbrev pub Root-logarithms : List ℕ → Type 0
+Root-logarithms bytes = Filled most-checks most-checks (λ i. first-exponent + i) bytes
+
+-- exponents below 255, one for each of the first roots
+pub record Exponents (many : ℕ) (bytes : List ℕ) : Type 0 where
+  pub long : length bytes ≡ most-checks
+  pub small : (i : ℕ) → i < many → getD bytes i 0 < 255
+
+-- and those of the powers of 2 that the powers e of these roots are
+pub record Root-exponents (many e : ℕ) (bytes : List ℕ) : Type 0 where
+  pub exponents : Exponents many bytes
+  pub same : (i : ℕ) → i < many → power 2 (getD bytes i 0) ≡ power (root i) e
 
 -- row i is at each plane the sum at root i of the first rows of checks, of which there are `count`
 pub record Check-sums (many count : ℕ) (checks sums : List ℕ) : Type 0 where

@@ -3,14 +3,15 @@
 // A row's byte of plane p stands at p, and each row is worked on in all planes at once.
 
 ghost use mathlib.Core.Path.{_≡_};
-ghost use Prim.Native.Nat.{_+_, _*_, _≤_};
+ghost use Prim.Native.Nat.{ℕ, _+_, _*_, _≤_};
 ghost use lib.ListN.{length, getD};
-ghost use Rattle.arrays.specs.Array.{Written};
-ghost use Rattle.field.specs.Field.{plus};
+ghost use Rattle.arrays.specs.Array.{Filled, Written};
+ghost use Rattle.field.specs.Field.{plus, power};
+ghost use Rattle.field.specs.Table.{Powers, Logarithms};
 ghost use Rattle.code.specs.Size.{most-checks, check-rows};
 ghost use Rattle.lanes.specs.Lanes.{row-width, Products-added};
-ghost use Rattle.sums.specs.Rows.{Values-added, Check-sums};
-use crate::powers::root_powers;
+ghost use Rattle.sums.specs.Rows.{Values-added, Root-logarithms, Exponents, Root-exponents, Check-sums};
+use crate::places::step_on;
 use code::sizes::CHECK_ROWS;
 use code::sizes::MOST_CHECKS;
 use lanes::ROW_WIDTH;
@@ -54,20 +55,84 @@ fn add_row(row: &[u8], constants: &[u8], sums: &mut [u8])
     lanes::add_products(row, constants, sums);
 }
 
-// The syndromes of the difference: check c's byte belongs to the power count - 1 - c of each root.
-pub fn syndromes(difference: &[u8], count: usize) -> [u8; CHECK_ROWS]
-    requires { ⌜ (count ≤ most-checks) × (row-width * count ≤ length (now difference)) ⌝ }
+// The logarithms of the twenty roots, which come from the table that the generator is built of.
+fn root_logarithms(logarithms: &[u8; 256]) -> [u8; MOST_CHECKS]
+    requires { ⌜ Logarithms (now logarithms) ⌝ }
+    ensures { λ r. ⌜ Root-logarithms r ⌝ }
+{
+    let roots = code::roots::roots();
+    let mut of_roots = [0u8; MOST_CHECKS];
+    let mut i = 0;
+    while i < MOST_CHECKS {
+        of_roots[i] = logarithms[roots[i] as usize];
+        i += 1;
+    }
+    of_roots
+}
+
+// The exponents of the power `count` of each of so many roots, below 255: 2^255 is 1.
+fn root_exponents(logarithms: &[u8; MOST_CHECKS], count: usize) -> [u8; MOST_CHECKS]
+    requires { ⌜ Root-logarithms (now logarithms) × (count ≤ most-checks) ⌝ }
+    ensures { λ r. ⌜ Root-exponents count count r ⌝ }
+{
+    let mut exponents = [0u8; MOST_CHECKS];
+    let mut i = 0;
+    while i < count {
+        let logarithm = logarithms[i] as usize;
+        exponents[i] = (logarithm * count % 255) as u8;
+        i += 1;
+    }
+    exponents
+}
+
+// From one power of each root to the one below: back by the root's logarithm is on by 255 less it, which takes no remainder.
+fn lower(logarithms: &[u8; MOST_CHECKS], exponents: &mut [u8; MOST_CHECKS], count: usize)
+    requires { ⌜ Root-logarithms (now logarithms) × (count ≤ most-checks) × Exponents count (now exponents) ⌝ }
+    ensures { λ _. ⌜ ((e : ℕ) → Root-exponents count (e + 1) (now (exponents .entry)) → Root-exponents count e (now (exponents .exit))) ⌝ }
+{
+    let mut i = 0;
+    while i < count {
+        let step = 255 - logarithms[i] as usize;
+        exponents[i] = step_on(exponents[i] as usize, step) as u8;
+        i += 1;
+    }
+}
+
+// The power of each of so many roots by its exponent.
+fn root_powers(powers: &[u8; 255], exponents: &[u8; MOST_CHECKS], count: usize) -> [u8; MOST_CHECKS]
+    requires { ⌜ Powers (now powers) × (count ≤ most-checks) × Exponents count (now exponents) ⌝ }
+    ensures { λ r. ⌜ Filled most-checks count (λ i. power 2 (getD (now (exponents .entry)) i 0)) r ⌝ }
+{
+    let mut constants = [0u8; MOST_CHECKS];
+    let mut i = 0;
+    while i < count {
+        constants[i] = powers[exponents[i] as usize];
+        i += 1;
+    }
+    constants
+}
+
+// The syndromes of the difference: check c's byte belongs to the power count - 1 - c of each root. The exponents start one
+// power above the first row's and are lowered before each row.
+pub fn syndromes(
+    powers: &[u8; 255],
+    logarithms: &[u8; 256],
+    difference: &[u8],
+    count: usize,
+) -> [u8; CHECK_ROWS]
+    requires { ⌜ Powers (now powers) × Logarithms (now logarithms) × (count ≤ most-checks) × (row-width * count ≤ length (now difference)) ⌝ }
     ensures { λ r. ⌜ Check-sums count count (now (difference .entry)) r ⌝ }
 {
-    let table = root_powers();
+    let of_roots = root_logarithms(logarithms);
+    let mut exponents = root_exponents(&of_roots, count);
     let mut sums = [0u8; CHECK_ROWS];
     let mut c = 0;
     while c < count {
-        let from = MOST_CHECKS * (count - 1 - c);
-        let to = from + count;
+        lower(&of_roots, &mut exponents, count);
+        let constants = root_powers(powers, &exponents, count);
         let at = ROW_WIDTH * c;
         let end = at + ROW_WIDTH;
-        add_row(&difference[at..end], &table[from..to], &mut sums);
+        add_row(&difference[at..end], &constants[..count], &mut sums);
         c += 1;
     }
     sums

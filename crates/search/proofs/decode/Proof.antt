@@ -20,7 +20,7 @@ mul-count : tie.Need-mul-count
 mul-count c = let z = few (c .before) in omega arith
 
 syndromes-requires : tie.Need-syndromes-requires
-syndromes-requires c κs = let z = few (c .before) in (omega arith, omega arith)
+syndromes-requires c κs = let s = c .before in let z = few s in (s .pre .0 .0, s .pre .0 .1, omega arith, omega arith)
 
 slice-aggregate-seek-all : tie.Need-slice-aggregate-seek-all
 slice-aggregate-seek-all c = sym (c .before .syndromes .ensures .long)

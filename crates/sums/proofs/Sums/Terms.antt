@@ -4,7 +4,7 @@ use mathlib.Core.List.{List}
 use Prim.Native.Nat.{ℕ, _+_, _*_, _-_, _≤_, _<_}
 use native.Mathlib.Omega.{arith}
 use lib.ListN.{length, getD, take, drop}
-use lib.Seq.{getD-take, getD-drop}
+use lib.Seq.{length-take-le, getD-take, getD-drop}
 use Rattle.arrays.specs.Array.{Filled}
 use Rattle.field.specs.Field.{plus, times}
 use Rattle.field.proofs.Xor.{plus-zero}
@@ -19,6 +19,11 @@ module _ (rows : List ℕ) (j : ℕ) where
 
   pub row-at : (p : ℕ) → p < row-width → getD (take (row-width * j + row-width - row-width * j) (drop (row-width * j) rows)) p 0 ≡ getD rows (in-row j p) 0
   row-at p h = getD-take (row-width * j + row-width - row-width * j) (drop (row-width * j) rows) p 0 (omega arith) ∙ getD-drop (row-width * j) rows p 0
+
+-- the constants: the first bytes of an array, read as one slice, and by another name for each
+pub filled-prefix : {f g : ℕ → ℕ} (k size : ℕ) (bytes : List ℕ) → k ≤ size → ((i : ℕ) → i < k → f i ≡ g i) → Filled size k f bytes → Filled k k g (take k bytes)
+filled-prefix k size bytes h e w =
+    record { long = length-take-le k bytes (omega (arith, w .long)); new = λ p l. getD-take k bytes p 0 l ∙ w .new p l ∙ e p l }
 
 pub products-of-zeros :
     (row constants sums : List ℕ) → ((i : ℕ) → getD sums i 0 < 256) → ((p : ℕ) → p < row-width → getD row p 0 ≡ 0) → Products-added (length constants) row constants sums sums

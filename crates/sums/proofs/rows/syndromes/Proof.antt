@@ -1,71 +1,90 @@
--- `syndromes` meets its contract: each turn adds the terms of one more check, by one row of the powers of the roots. Assumes nothing.
-use mathlib.Core.Path.{_≡_, refl, sym}
-use Prim.Native.Nat.{ℕ, _+_, _*_, _-_, _≤_}
+-- `syndromes` meets its contract: each turn goes one power of the roots down and adds the terms of one more check. Assumes nothing.
+use mathlib.Core.Path.{_≡_, refl, sym, subst}
+use mathlib.Core.List.{List}
+use Prim.Native.Nat.{ℕ, _+_, _-_, _≤_}
 use native.Mathlib.Omega.{arith}
-use lib.ListN.{take, drop}
+use lib.ListN.{take}
 use Rattle.arrays.specs.Array.{Filled}
 use Rattle.field.specs.Field.{power}
-use Rattle.code.specs.Size.{most-checks}
 use Rattle.code.specs.Polynomial.{root}
-use Rattle.sums.specs.Rows.{Check-sums}
-use Rattle.sums.proofs.Sums.Terms.{row-length, row-at, terms-of-products}
+use Rattle.sums.specs.Rows.{Root-exponents, Check-sums}
+use Rattle.sums.proofs.Sums.Terms.{row-length, row-at, filled-prefix, terms-of-products}
 use Rattle.sums.proofs.Sums.CheckSums.{check-sums-none, check-sums-more, check-sums-whole}
-use Rattle.sums.proofs.Sums.RootPowers.{row-lent}
 use Rattle.sums.proofs.rows.syndromes.Statement.{statement}
 use Rattle.sums.proofs.rows.syndromes.Tie as tie
 
 abbrev Inv-loop : tie.InvT-loop
-Inv-loop difference count table sums₀ c₀ sums c = (c ≤ count) × Check-sums c count difference sums
+Inv-loop powers logarithms difference count of-roots exponents₀ sums₀ c₀ exponents sums c =
+    (c ≤ count) × Root-exponents count (count - c) exponents × Check-sums c count difference sums
 
 abbrev μ-loop : tie.MeasureT-loop
-μ-loop difference count table sums₀ c₀ sums c = count - c
+μ-loop powers logarithms difference count of-roots exponents₀ sums₀ c₀ exponents sums c = count - c
+
+-- the turn in which the exponents were lowered, and what was known before the loop
+abbrev turn : tie.After-lower Inv-loop μ-loop → tie.At-loop Inv-loop μ-loop
+turn c = c .before .before .before .before
+
+abbrev start : tie.At-loop Inv-loop μ-loop → tie.Start Inv-loop μ-loop
+start l = l .before .before .before .before .before
+
+exponents-of : {many d e : ℕ} {bytes : List ℕ} → d ≡ e → Root-exponents many d bytes → Root-exponents many e bytes
+exponents-of {many = many} {bytes = bytes} q r = subst (λ (k : ℕ). Root-exponents many k bytes) q r
+
+-- the exponents of a turn, and the constants that they make
+lowered : (c : tie.After-lower Inv-loop μ-loop) → Root-exponents (start (turn c) .args .count) (start (turn c) .args .count - (turn c .loop .c + 1)) (c .lower .last .1 .0)
+lowered c = c .lower .ensures _ (exponents-of (omega arith) (turn c .loop .inv .1))
+
+abbrev lowering : tie.After-root-powers Inv-loop μ-loop → tie.After-lower Inv-loop μ-loop
+lowering c = c .before .before
+
+constants :
+    (c : tie.After-root-powers Inv-loop μ-loop) → let l = turn (lowering c) in let count = start l .args .count in
+    Filled count count (λ i. power (root i) (count - (l .loop .c + 1))) (take count (c .root-powers .result))
+constants c = filled-prefix _ _ _ (start (turn (lowering c)) .pre .2) (lowered (lowering c) .same) (c .root-powers .ensures)
+
+root-logarithms-requires : tie.Need-root-logarithms-requires Inv-loop μ-loop
+root-logarithms-requires c κs = c .before .pre .1
+
+root-exponents-requires : tie.Need-root-exponents-requires Inv-loop μ-loop
+root-exponents-requires c κs = let made = c .before in (made .root-logarithms .ensures, made .before .before .pre .2)
 
 loop-holds : tie.Need-loop-holds Inv-loop μ-loop
-loop-holds c = (omega arith, check-sums-none _ _ _ refl refl)
+loop-holds c = (omega arith, exponents-of (omega arith) (c .root-exponents .ensures), check-sums-none _ _ _ refl refl)
 
--- the powers that are lent in a turn
-module _ (c : tie.In-loop Inv-loop μ-loop) where
-  abbrev made : tie.After-root-powers Inv-loop μ-loop
-  made = c .before .before
+lower-requires : tie.Need-lower-requires Inv-loop μ-loop
+lower-requires c κs = let l = c .before .before .before in (l .before .before .before .root-logarithms .ensures, start l .pre .2, l .loop .inv .1 .exponents)
 
-  abbrev start : tie.Start Inv-loop μ-loop
-  start = made .before .before
+root-powers-requires : tie.Need-root-powers-requires Inv-loop μ-loop
+root-powers-requires c κs = (start (turn (c .before)) .pre .0, start (turn (c .before)) .pre .2, lowered (c .before) .exponents)
 
-  abbrev count : ℕ
-  count = start .args .count
-
-  abbrev from : ℕ
-  from = most-checks * (count - 1 - c .before .loop .c)
-
-  lent : Filled count count (λ i. power (root i) (count - 1 - c .before .loop .c)) (take (from + count - from) (drop from (made .root-powers .result)))
-  lent =
-      row-lent count (count - 1 - c .before .loop .c) (from + count - from) (made .root-powers .result) (start .pre .0)
-      (omega (arith, c .loop-test .taken, start .pre .0)) (omega arith) (made .root-powers .ensures)
-
-part-add-row-end-2 : tie.Need-part-add-row-end-2 Inv-loop μ-loop
-part-add-row-end-2 c = let m = c .before .before in omega (arith, made m .root-powers .ensures .many, m .loop-test .taken, start m .pre .0)
+array-share-prefix-constants : tie.Need-array-share-prefix-constants Inv-loop μ-loop
+array-share-prefix-constants c = omega (arith, c .before .root-powers .ensures .long)
 
 slice-aggregate-add-row : tie.Need-slice-aggregate-add-row Inv-loop μ-loop
-slice-aggregate-add-row c = sym (c .before .before .before .before .before .loop .inv .1 .long)
+slice-aggregate-add-row c = sym (constants (c .before .before) .long)
+
+slice-aggregate-add-row-2 : tie.Need-slice-aggregate-add-row-2 Inv-loop μ-loop
+slice-aggregate-add-row-2 c = let l = turn (lowering (c .before .before .before)) in omega (arith, l .loop .inv .2 .long)
 
 add-row-requires : tie.Need-add-row-requires Inv-loop μ-loop
 add-row-requires c κs =
-    let m = c .before .before .before .before in (
-      row-length (start m .args .difference .now) (m .before .loop .c) (omega (arith, m .loop-test .taken, start m .pre .1)),
-      omega (arith, lent m .long, m .before .loop .inv .1 .long, start m .pre .0),
-    )
+    let raised = c .before .before .before in
+    let l = turn (lowering raised) in
+    (row-length (start l .args .difference .now) (l .loop .c) (omega arith), rw (constants raised .long) (omega (arith, l .loop .inv .2 .long)))
 
 loop-again : tie.Need-loop-again Inv-loop μ-loop
 loop-again c =
-    let m = c .before .before .before .before .before .before in
-    let d = start m .args .difference .now in (
-      (let h : m .before .loop .c + 1 ≤ count m = omega (arith, m .loop-test .taken) in h),
-      check-sums-more (m .before .loop .c) _ _ d _ _ _ refl (m .before .loop .inv .1) (row-at d (m .before .loop .c))
-          (terms-of-products _ _ _ _ _ _ (lent m) (c .before .add-row .ensures)),
+    let added = c .before in
+    let raised = added .before .before .before .before in
+    let l = turn (lowering raised) in
+    let d = start l .args .difference .now in (
+      omega arith,
+      lowered (lowering raised),
+      check-sums-more (l .loop .c) _ _ d _ _ _ (omega arith) (l .loop .inv .2) (row-at d (l .loop .c)) (terms-of-products _ _ _ _ _ _ (constants raised) (added .add-row .ensures)),
     )
 
 returns : tie.Need-returns Inv-loop μ-loop
-returns c = check-sums-whole (let e : c .before .loop .c ≡ _ = omega arith in e) (c .before .loop .inv .1)
+returns c = check-sums-whole (let e : c .before .loop .c ≡ _ = omega arith in e) (c .before .loop .inv .2)
 
 pub syndromes-spec : {M : Type 1} → statement M
 syndromes-spec =
@@ -73,21 +92,19 @@ syndromes-spec =
     (tie.spec
     Inv-loop
     μ-loop
-    (λ c κs. tt)
+    root-logarithms-requires
+    root-exponents-requires
     loop-holds
+    lower-requires
+    root-powers-requires
     (λ c. omega arith)
     (λ c. omega arith)
     (λ c. omega arith)
     (λ c. omega arith)
     (λ c. omega arith)
-    (λ c. omega arith)
-    (λ c. omega arith)
-    (λ c. omega arith)
-    (λ c. omega arith)
-    (λ c. omega arith)
-    (λ c. omega arith)
-    part-add-row-end-2
+    array-share-prefix-constants
     slice-aggregate-add-row
+    slice-aggregate-add-row-2
     add-row-requires
     (λ c. omega arith)
     (λ c. omega arith)
