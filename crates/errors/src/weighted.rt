@@ -20,9 +20,9 @@ use code::sizes::MOST_BAD;
 use code::sizes::VALUE_ROOM;
 use lanes::ROW_WIDTH;
 use lanes::TABLE_ROOM;
+use lanes::put_row_tables;
 use sums::places::LOCATOR_TABLES;
 use sums::places::place_exponent;
-use sums::places::put_all_tables;
 use sums::places::put_values;
 use sums::places::step_back;
 use sums::places::step_on;
@@ -228,8 +228,8 @@ fn put_all_errors(
     let slopes = slopes(rows, half);
     let mut upper = [0u8; LOCATOR_TABLES];
     let mut lower = [0u8; SLOPE_TABLES];
-    put_all_tables(&numerators, size, &mut upper);
-    put_all_tables(&slopes, half, &mut lower);
+    put_row_tables(&numerators, 1, size, &mut upper);
+    put_row_tables(&slopes, 1, half, &mut lower);
     put_fractions(
         powers,
         logarithms,

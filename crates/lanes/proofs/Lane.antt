@@ -1,12 +1,13 @@
 -- A plane of the first rows: byte j of it stands in row j, and one row more is one byte more at its end. Assumes nothing.
 use mathlib.Core.Path.{_≡_, refl, sym, _∙_, ap}
 use mathlib.Core.List.{List, [], _∷_, _++_}
-use Prim.Native.Nat.{ℕ, zero, suc, _+_, _<_}
+use Prim.Native.Nat.{ℕ, zero, suc, _+_, _*_, _-_, _≤_, _<_}
 use native.Mathlib.Omega.{arith}
-use lib.ListN.{length, getD, drop, replicate, length-replicate, getD-replicate}
-use lib.Seq.{getD-drop, ext-getD}
+use lib.ListN.{length, getD, take, drop, replicate, length-replicate, getD-replicate}
+use lib.Seq.{getD-take, getD-drop, ext-getD}
 use Rattle.lanes.specs.Lanes.{row-width, in-row, lane}
 use Rattle.arrays.proofs.Bytes.{Bytes}
+use Rattle.arrays.proofs.Part.{part-long}
 
 row-behind : (bs : List ℕ) (j p : ℕ) → getD (drop row-width bs) (in-row j p) 0 ≡ getD bs (in-row (suc j) p) 0
 row-behind bs j p = getD-drop row-width bs (in-row j p) 0 ∙ ap (λ (i : ℕ). getD bs i 0) (let e : row-width + (in-row j p) ≡ in-row (suc j) p = omega arith in e)
@@ -42,3 +43,11 @@ pub lane-bytes : (p rows : ℕ) (bs : List ℕ) → ((i : ℕ) → getD bs i 0 <
 unfolding lane
 lane-bytes p zero bs h = tt
 lane-bytes p (suc k) bs h = (h p, lane-bytes p k (drop row-width bs) (λ i. rw (getD-drop row-width bs i 0) (h (row-width + i))))
+
+-- row j, lent as a part of the rows
+module _ (rows : List ℕ) (j : ℕ) where
+  pub row-length : row-width * j + row-width ≤ length rows → length (take (row-width * j + row-width - row-width * j) (drop (row-width * j) rows)) ≡ row-width
+  row-length h = part-long (row-width * j) row-width rows h
+
+  pub row-at : (p : ℕ) → p < row-width → getD (take (row-width * j + row-width - row-width * j) (drop (row-width * j) rows)) p 0 ≡ getD rows (in-row j p) 0
+  row-at p h = getD-take (row-width * j + row-width - row-width * j) (drop (row-width * j) rows) p 0 (omega arith) ∙ getD-drop (row-width * j) rows p 0

@@ -1,14 +1,15 @@
 -- Both tables of a value in one array. The low half of a constant and its high half each have a row, and the two rows added are the
 -- product. Assumes nothing.
-use mathlib.Core.Path.{_≡_, _∙_, ap, ap₂}
+use mathlib.Core.Path.{_≡_, _∙_, ap, ap₂, subst}
 use mathlib.Core.List.{List}
-use Prim.Native.Nat.{ℕ, _+_, _*_, _/_, _%_, _<_}
+use Prim.Native.Nat.{ℕ, _+_, _*_, _/_, _%_, _≤_, _<_}
 use native.Mathlib.Omega.{arith}
-use lib.ListN.{getD}
+use native.Mathlib.Decide.{decLt}
+use lib.ListN.{length, getD}
 use Rattle.arrays.specs.Array.{Written}
 use Rattle.arrays.proofs.Written.{written-as}
 use Rattle.field.specs.Field.{plus, doubled, times}
-use Rattle.lanes.specs.Lanes.{row-width, multiple-rows, in-row, Multiples, Tables, Tables-put}
+use Rattle.lanes.specs.Lanes.{row-width, multiple-rows, table-room, in-row, Multiples, Tables, Tables-put, Row-tables}
 use Rattle.lanes.proofs.Multiples.{times-halves}
 
 -- two copies, one behind the other
@@ -48,3 +49,31 @@ halves-added at c to f tables rows now h byte t w =
     ∙ t .high (c / 16) p (omega arith) l)
     ∙ times-halves (f p) c (byte p) h))
     w
+
+-- the tables of rows, one row more
+pub row-tables-none : (first : ℕ) (rows tables : List ℕ) → table-room * first ≤ length tables → Row-tables first first rows tables
+row-tables-none first rows tables e = record { room = e; each = λ m h l. absurd (omega arith) }
+
+pub row-tables-more :
+    (first many : ℕ) (f : ℕ → ℕ) (rows tables now : List ℕ) → ((p : ℕ) → p < row-width → f p ≡ getD rows (in-row many p) 0) →
+    Row-tables first many rows tables → table-room * (many + 1) ≤ length tables → Tables-put (table-room * many) f tables now →
+    Row-tables first (many + 1) rows now
+row-tables-more first many f rows tables now same t room w =
+    record { room = omega (arith, w .long); each = λ m h l. each m h l (decLt m many) }
+  where
+    each : (m : ℕ) → first ≤ m → m < many + 1 → Dec (m < many) → Tables (table-room * m) (λ p. getD rows (in-row m p) 0) now
+    each m h l (yes a) =
+        record {
+          low = λ k p g o. w .before _ (omega arith) ∙ t .each m h a .low k p g o;
+          high = λ k p g o. w .before _ (omega arith) ∙ t .each m h a .high k p g o;
+        }
+    each m h l (no a) =
+        let e : m ≡ many = omega arith in
+        rw e
+        (record {
+          low = λ k p g o. w .put .low k p g o ∙ ap (λ (b : ℕ). times b k) (same p o);
+          high = λ k p g o. w .put .high k p g o ∙ ap (λ (b : ℕ). times (doubled (times b 8)) k) (same p o);
+        })
+
+pub row-tables-to : {first many k : ℕ} {rows tables : List ℕ} → many ≡ k → Row-tables first many rows tables → Row-tables first k rows tables
+row-tables-to {first} {many} {k} {rows} {tables} e t = subst (λ (i : ℕ). Row-tables first i rows tables) e t

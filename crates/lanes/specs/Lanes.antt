@@ -44,6 +44,11 @@ pub record Tables-put (at : ℕ) (f : ℕ → ℕ) (tables tables-now : List ℕ
   pub before : (i : ℕ) → i < at → getD tables-now i 0 ≡ getD tables i 0
   pub after : (i : ℕ) → at + table-room ≤ i → getD tables-now i 0 ≡ getD tables i 0
 
+-- both tables of each row from the first named on, up to the last of so many, each pair at its row's number
+pub record Row-tables (first many : ℕ) (rows tables : List ℕ) : Type 0 where
+  pub room : table-room * many ≤ length tables
+  pub each : (m : ℕ) → first ≤ m → m < many → Tables (table-room * m) (λ p. getD rows (in-row m p) 0) tables
+
 -- where the first rows are so many multiples of any value of bytes, they now are more of them
 abbrev pub Continued : (many more : ℕ) → (rows rows-now : List ℕ) → Type 0
 Continued many more rows rows-now = (f : ℕ → ℕ) → ((p : ℕ) → f p < 256) → Multiples many f rows → Multiples more f rows-now

@@ -9,7 +9,7 @@ ghost use lib.Dec.{eqb};
 ghost use lib.ListN.{length, getD};
 ghost use Rattle.arrays.specs.Array.{Written};
 ghost use Rattle.field.specs.Field.{plus, doubled, times};
-ghost use Rattle.lanes.specs.Lanes.{row-width, multiple-rows, table-room, in-row, Multiples, Tables, Tables-put, Continued, Doublings, Products-added};
+ghost use Rattle.lanes.specs.Lanes.{row-width, multiple-rows, table-room, in-row, Multiples, Tables, Tables-put, Row-tables, Continued, Doublings, Products-added};
 
 // The byte planes that a row has room for, and so at least the most bytes of a value.
 pub const ROW_WIDTH: usize = 8;
@@ -218,6 +218,20 @@ pub fn put_tables(value: &[u8], tables: &mut [u8], at: usize)
     multiply(&mut high);
     arrays::copy(tables, at, &low, 0, MULTIPLE_ROWS);
     arrays::copy(tables, at + MULTIPLE_ROWS, &high, 0, MULTIPLE_ROWS);
+}
+
+// Both tables of each row from the first named on, each pair at its row's number.
+pub fn put_row_tables(rows: &[u8], first: usize, many: usize, tables: &mut [u8])
+    requires { ⌜ (first ≤ many) × (row-width * many ≤ length (now rows)) × (table-room * many ≤ length (now tables)) ⌝ }
+    ensures { λ _. ⌜ (length (now (tables .exit)) ≡ length (now (tables .entry))) × Row-tables first many (now (rows .entry)) (now (tables .exit)) ⌝ }
+{
+    let mut m = first;
+    while m < many {
+        let at = ROW_WIDTH * m;
+        let end = at + ROW_WIDTH;
+        put_tables(&rows[at..end], tables, TABLE_ROOM * m);
+        m += 1;
+    }
 }
 
 // The row of bytes from a place on, with two rows of the tables added in one step.

@@ -109,6 +109,7 @@ fn seek_long(
     SoughtAll { roots, rows }
 }
 
+// What is looked for in each plane. Where no plane has more than one place wrong no locator is worked out.
 pub fn seek_all(
     powers: &[u8; 255],
     logarithms: &[u8; 256],

@@ -18,11 +18,11 @@ use code::sizes::PLACE_ROWS;
 use code::sizes::VALUE_ROOM;
 use errors::roots::longest;
 use lanes::ROW_WIDTH;
+use lanes::put_row_tables;
 use sums::places::LOCATOR_TABLES;
 use sums::places::SHORT_LOCATOR;
 use sums::places::SHORT_TABLES;
 use sums::places::place_exponent;
-use sums::places::put_all_tables;
 use sums::places::put_values;
 
 // What the walk found. For each plane: how many of the roots looked for are left, and how many places were tried. In rows, one for each
@@ -144,10 +144,10 @@ pub fn walk(powers: &[u8; 255], rows: &[u8], roots: [u8; VALUE_ROOM], n: usize, 
     let many = longest(roots) + 1;
     if many <= SHORT_LOCATOR {
         let mut tables = [0u8; SHORT_TABLES];
-        put_all_tables(rows, many, &mut tables);
+        put_row_tables(rows, 1, many, &mut tables);
         return try_places(powers, &tables, many, rows, roots, n, t);
     }
     let mut tables = [0u8; LOCATOR_TABLES];
-    put_all_tables(rows, many, &mut tables);
+    put_row_tables(rows, 1, many, &mut tables);
     try_places(powers, &tables, many, rows, roots, n, t)
 }

@@ -81,20 +81,6 @@ pub fn first_logarithm(logarithms: &[u8; 256]) -> usize
     logarithms[roots[0] as usize] as usize
 }
 
-// Puts the tables of each row of coefficients but the first, which goes in as it is: the power 0 of every place is 1.
-pub fn put_all_tables(coefficients: &[u8], many: usize, tables: &mut [u8])
-    requires { ⌜ (1 ≤ many) × (many ≤ most-bad + 1) × (row-width * many ≤ length (now coefficients)) × (table-room * many ≤ length (now tables)) ⌝ }
-    ensures { λ _. ⌜ (length (now (tables .exit)) ≡ length (now (tables .entry))) × Coefficient-tables many (now (coefficients .entry)) (now (tables .exit)) ⌝ }
-{
-    let mut m = 1;
-    while m < many {
-        let at = ROW_WIDTH * m;
-        let end = at + ROW_WIDTH;
-        lanes::put_tables(&coefficients[at..end], tables, TABLE_ROOM * m);
-        m += 1;
-    }
-}
-
 // Each plane's polynomial at the place with this exponent, written into the row of bytes from `at` on: the first row of
 // coefficients, and to it each other, times the place's power.
 // The sum is a row of its own until it is whole: in the bytes that are lent it would be stored byte by byte at every turn, since

@@ -64,31 +64,3 @@ module _ (exponent : ℕ) (coefficients row copied : List ℕ) (byte : (i : ℕ)
       (m many : ℕ) (now : List ℕ) → m ≡ many → Values-put m exponent coefficients copied now →
       (p : ℕ) → p < row-width → getD now (0 + p) 0 ≡ eval (lane p many coefficients) (power 2 exponent)
   values-whole m many now e w p h = w .new p h ∙ ap (λ (k : ℕ). eval (lane p k coefficients) (power 2 exponent)) e
-
--- tables, one row of coefficients more
-pub tables-first : (coefficients tables : List ℕ) → table-room ≤ length tables → Coefficient-tables 1 coefficients tables
-tables-first coefficients tables e = record { room = omega arith; each = λ m h l. absurd (omega arith) }
-
-pub tables-more :
-    (many : ℕ) (f : ℕ → ℕ) (coefficients tables now : List ℕ) → 1 ≤ many → ((p : ℕ) → p < row-width → f p ≡ getD coefficients (in-row many p) 0) →
-    Coefficient-tables many coefficients tables → table-room * (many + 1) ≤ length tables → Tables-put (table-room * many) f tables now →
-    Coefficient-tables (many + 1) coefficients now
-tables-more many f coefficients tables now some same t room w =
-    record { room = omega (arith, w .long); each = λ m h l. each m h l (decLt m many) }
-  where
-    each : (m : ℕ) → 1 ≤ m → m < many + 1 → Dec (m < many) → Tables (table-room * m) (λ p. getD coefficients (in-row m p) 0) now
-    each m h l (yes a) =
-        record {
-          low = λ k p g o. w .before _ (omega arith) ∙ t .each m h a .low k p g o;
-          high = λ k p g o. w .before _ (omega arith) ∙ t .each m h a .high k p g o;
-        }
-    each m h l (no a) =
-        let e : m ≡ many = omega arith in
-        rw e
-        (record {
-          low = λ k p g o. w .put .low k p g o ∙ ap (λ (b : ℕ). times b k) (same p o);
-          high = λ k p g o. w .put .high k p g o ∙ ap (λ (b : ℕ). times (doubled (times b 8)) k) (same p o);
-        })
-
-pub tables-to : {many k : ℕ} {coefficients tables : List ℕ} → many ≡ k → Coefficient-tables many coefficients tables → Coefficient-tables k coefficients tables
-tables-to {many} {k} {coefficients} {tables} e t = subst (λ (i : ℕ). Coefficient-tables i coefficients tables) e t

@@ -1,24 +1,15 @@
 -- A row's terms: its products with the constants that an array holds, and a row of zeros has none. Assumes nothing.
 use mathlib.Core.Path.{_≡_, refl, sym, _∙_, ap}
 use mathlib.Core.List.{List}
-use Prim.Native.Nat.{ℕ, _+_, _*_, _-_, _≤_, _<_}
+use Prim.Native.Nat.{ℕ, _≤_, _<_}
 use native.Mathlib.Omega.{arith}
-use lib.ListN.{length, getD, take, drop}
-use lib.Seq.{length-take-le, getD-take, getD-drop}
+use lib.ListN.{length, getD, take}
+use lib.Seq.{length-take-le, getD-take}
 use Rattle.arrays.specs.Array.{Filled}
 use Rattle.field.specs.Field.{plus, times}
 use Rattle.field.proofs.Xor.{plus-zero}
 use Rattle.field.proofs.Times.{zero-times}
 use Rattle.lanes.specs.Lanes.{row-width, in-row, Products-added}
-use Rattle.arrays.proofs.Part.{part-long}
-
--- row j, lent as a part of the rows
-module _ (rows : List ℕ) (j : ℕ) where
-  pub row-length : row-width * j + row-width ≤ length rows → length (take (row-width * j + row-width - row-width * j) (drop (row-width * j) rows)) ≡ row-width
-  row-length h = part-long (row-width * j) row-width rows h
-
-  pub row-at : (p : ℕ) → p < row-width → getD (take (row-width * j + row-width - row-width * j) (drop (row-width * j) rows)) p 0 ≡ getD rows (in-row j p) 0
-  row-at p h = getD-take (row-width * j + row-width - row-width * j) (drop (row-width * j) rows) p 0 (omega arith) ∙ getD-drop (row-width * j) rows p 0
 
 -- the constants: the first bytes of an array, read as one slice, and by another name for each
 pub filled-prefix : {f g : ℕ → ℕ} (k size : ℕ) (bytes : List ℕ) → k ≤ size → ((i : ℕ) → i < k → f i ≡ g i) → Filled size k f bytes → Filled k k g (take k bytes)

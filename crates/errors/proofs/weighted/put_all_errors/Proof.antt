@@ -77,53 +77,51 @@ slopes-requires c κs =
 abbrev looked : tie.After-slopes → tie.After-longest
 looked c = c .before .before .before
 
-slice-aggregate-put-all-tables : tie.Need-slice-aggregate-put-all-tables
-slice-aggregate-put-all-tables c = sym (c .before .before .numerators .ensures .long)
+slice-aggregate-put-row-tables : tie.Need-slice-aggregate-put-row-tables
+slice-aggregate-put-row-tables c = sym (c .before .before .numerators .ensures .long)
 
-put-all-tables-requires : tie.Need-put-all-tables-requires
-put-all-tables-requires c κs =
+put-row-tables-requires : tie.Need-put-row-tables-requires
+put-row-tables-requires c κs =
     let p = c .before .before in
     let l = looked p in
     let bounds = start l .pre .1 .0 in (
       omega (arith, p .before .before .if1 .left),
-      omega (arith, few l, bounds),
       omega (arith, few l, bounds, p .before .numerators .ensures .long),
       omega (arith, few l, bounds),
     )
 
 -- and where the upper tables stand
-abbrev both : tie.After-put-all-tables → tie.After-slopes
+abbrev both : tie.After-put-row-tables → tie.After-slopes
 both c = c .before .before .before
 
-slice-aggregate-put-all-tables-3 : tie.Need-slice-aggregate-put-all-tables-3
-slice-aggregate-put-all-tables-3 c = sym (both (c .before .before) .slopes .ensures .long)
+slice-aggregate-put-row-tables-3 : tie.Need-slice-aggregate-put-row-tables-3
+slice-aggregate-put-row-tables-3 c = sym (both (c .before .before) .slopes .ensures .long)
 
-put-all-tables-requires-2 : tie.Need-put-all-tables-requires-2
-put-all-tables-requires-2 c κs =
+put-row-tables-requires-2 : tie.Need-put-row-tables-requires-2
+put-row-tables-requires-2 c κs =
     let p = both (c .before .before .before) in
     let l = looked p in
     let bounds = start l .pre .1 .0 in (
       omega (arith, p .before .before .if1 .left),
-      omega (arith, few l, bounds),
       omega (arith, few l, bounds, p .slopes .ensures .long),
       omega (arith, few l, bounds),
     )
 
 -- and where all tables stand
-abbrev upper-put : tie.After-put-all-tables2 → tie.After-put-all-tables
+abbrev upper-put : tie.After-put-row-tables2 → tie.After-put-row-tables
 upper-put c = c .before .before .before .before
 
 slice-aggregate-put-fractions : tie.Need-slice-aggregate-put-fractions
 slice-aggregate-put-fractions c = sym (both (upper-put (c .before .before)) .before .numerators .ensures .long)
 
 slice-aggregate-put-fractions-2 : tie.Need-slice-aggregate-put-fractions-2
-slice-aggregate-put-fractions-2 c = sym (upper-put (c .before .before .before) .put-all-tables .ensures .0)
+slice-aggregate-put-fractions-2 c = sym (upper-put (c .before .before .before) .put-row-tables .ensures .0)
 
 slice-aggregate-put-fractions-3 : tie.Need-slice-aggregate-put-fractions-3
 slice-aggregate-put-fractions-3 c = sym (both (upper-put (c .before .before .before .before)) .slopes .ensures .long)
 
 slice-aggregate-put-fractions-4 : tie.Need-slice-aggregate-put-fractions-4
-slice-aggregate-put-fractions-4 c = sym (c .before .before .before .before .before .put-all-tables2 .ensures .0)
+slice-aggregate-put-fractions-4 c = sym (c .before .before .before .before .before .put-row-tables2 .ensures .0)
 
 put-fractions-requires : tie.Need-put-fractions-requires
 put-fractions-requires c κs =
@@ -135,8 +133,8 @@ put-fractions-requires c κs =
     let bounds = s .pre .1 .0 in (
       (s .pre .0 .0, s .pre .0 .1, omega (arith, p .before .before .if1 .left), omega (arith, few l, bounds)),
       (
-        (p .before .numerators .ensures .long, upper .put-all-tables .ensures .1),
-        ((p .slopes .ensures .long, lower .put-all-tables2 .ensures .1), (bounds .0, bounds .1, bounds .2, s .pre .0 .2)),
+        (p .before .numerators .ensures .long, upper .put-row-tables .ensures .1),
+        ((p .slopes .ensures .long, lower .put-row-tables2 .ensures .1), (bounds .0, bounds .1, bounds .2, s .pre .0 .2)),
       ),
     )
 
@@ -167,12 +165,12 @@ put-all-errors-spec =
     add-half
     numerators-requires
     slopes-requires
-    slice-aggregate-put-all-tables
+    slice-aggregate-put-row-tables
     (λ c. refl)
-    put-all-tables-requires
-    slice-aggregate-put-all-tables-3
+    put-row-tables-requires
+    slice-aggregate-put-row-tables-3
     (λ c. refl)
-    put-all-tables-requires-2
+    put-row-tables-requires-2
     slice-aggregate-put-fractions
     slice-aggregate-put-fractions-2
     slice-aggregate-put-fractions-3

@@ -24,8 +24,8 @@ longest-requires c κs = c .before .pre .1 .many
 add-many : tie.Need-add-many
 add-many c = omega (arith, most-few c)
 
-put-all-tables-requires : tie.Need-put-all-tables-requires
-put-all-tables-requires c κs = let few = most-few (c .before .before) in (omega arith, omega arith, omega arith, omega arith)
+put-row-tables-requires : tie.Need-put-row-tables-requires
+put-row-tables-requires c κs = let few = most-few (c .before .before) in (omega arith, omega arith, omega arith)
 
 -- the places are tried by tables of as many rows, in whichever array they stand
 tried-by :
@@ -40,20 +40,20 @@ tried-by c tables put =
     ((omega arith, omega arith, put), (s .pre .1, same-values _ _ _ _ (s .pre .1) (c .longest .ensures)))
 
 slice-aggregate-try-places : tie.Need-slice-aggregate-try-places
-slice-aggregate-try-places c = sym (c .before .before .put-all-tables .ensures .0)
+slice-aggregate-try-places c = sym (c .before .before .put-row-tables .ensures .0)
 
 try-places-requires : tie.Need-try-places-requires
-try-places-requires c κs = let put = c .before .before in let most = put .before .before .before in (start most .pre .0, tried-by most _ (put .put-all-tables .ensures .1))
+try-places-requires c κs = let put = c .before .before in let most = put .before .before .before in (start most .pre .0, tried-by most _ (put .put-row-tables .ensures .1))
 
-put-all-tables-requires-2 : tie.Need-put-all-tables-requires-2
-put-all-tables-requires-2 c κs = let few = most-few (c .before .before) in (omega arith, omega arith, omega arith, omega arith)
+put-row-tables-requires-2 : tie.Need-put-row-tables-requires-2
+put-row-tables-requires-2 c κs = let few = most-few (c .before .before) in (omega arith, omega arith, omega arith)
 
 slice-aggregate-try-places-2 : tie.Need-slice-aggregate-try-places-2
-slice-aggregate-try-places-2 c = sym (c .before .before .put-all-tables2 .ensures .0)
+slice-aggregate-try-places-2 c = sym (c .before .before .put-row-tables2 .ensures .0)
 
 try-places-requires-2 : tie.Need-try-places-requires-2
 try-places-requires-2 c κs =
-    let put = c .before .before in let most = put .before .before .before in (start most .pre .0, tried-by most _ (put .put-all-tables2 .ensures .1))
+    let put = c .before .before in let most = put .before .before .before in (start most .pre .0, tried-by most _ (put .put-row-tables2 .ensures .1))
 
 pub walk-spec : {M : Type 1} → statement M
 walk-spec =
@@ -62,12 +62,12 @@ walk-spec =
     longest-requires
     add-many
     (λ c. refl)
-    put-all-tables-requires
+    put-row-tables-requires
     slice-aggregate-try-places
     try-places-requires
     (λ c. c .try-places .ensures)
     (λ c. refl)
-    put-all-tables-requires-2
+    put-row-tables-requires-2
     slice-aggregate-try-places-2
     try-places-requires-2
     (λ c. c .try-places2 .ensures))

@@ -8,7 +8,8 @@ use Rattle.arrays.specs.Array.{Filled}
 use Rattle.field.specs.Field.{power}
 use Rattle.code.specs.Polynomial.{root}
 use Rattle.sums.specs.Rows.{Root-exponents, Check-sums}
-use Rattle.sums.proofs.Sums.Terms.{row-length, row-at, filled-prefix, terms-of-products}
+use Rattle.lanes.proofs.Lane.{row-length, row-at}
+use Rattle.sums.proofs.Sums.Terms.{filled-prefix, terms-of-products}
 use Rattle.sums.proofs.Sums.CheckSums.{check-sums-none, check-sums-more, check-sums-whole}
 use Rattle.sums.proofs.rows.syndromes.Statement.{statement}
 use Rattle.sums.proofs.rows.syndromes.Tie as tie
