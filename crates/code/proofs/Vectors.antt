@@ -1,6 +1,6 @@
--- Vectors of values: their planes, their check values, and how they lie in lent bytes and in rows.
+-- Vectors of values: their planes, their check values, and how they lie in lent bytes.
 pub mod Planes
 pub mod ByPlanes
 pub mod Checks
 pub mod Cut
-pub mod Loading
+pub mod Storing

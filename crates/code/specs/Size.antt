@@ -18,6 +18,14 @@ most-checks = 2 * most-bad
 abbrev pub generator-room : ℕ
 generator-room = most-checks + 1
 
+-- rows that have a byte for each check
+abbrev pub feedback-rows : ℕ
+feedback-rows = 3
+
+-- room for what the register feeds back
+abbrev pub feedback-room : ℕ
+feedback-room = row-width * feedback-rows
+
 -- the places of a plane: one for each column and each check
 abbrev pub most-places : ℕ
 most-places = most-columns + most-checks
@@ -37,6 +45,14 @@ vector-room = most-columns * value-room
 -- room for every check value
 abbrev pub checks-room : ℕ
 checks-room = most-checks * value-room
+
+-- the bytes that a plane's register moves through: one for each column, and what it feeds back behind the last
+abbrev pub window-room : ℕ
+window-room = most-columns + feedback-room
+
+-- room for a window of each plane
+abbrev pub windows-room : ℕ
+windows-room = window-room * value-room
 
 -- a row for each place
 abbrev pub place-rows : ℕ

@@ -1,5 +1,6 @@
 // The Reed-Solomon code over byte planes: check values.
-pub mod planes;
+mod division;
+mod planes;
 mod register;
 pub mod roots;
 pub mod settings;
@@ -11,7 +12,6 @@ ghost use lib.ListN.{length};
 ghost use Rattle.code.specs.Settings.{settings, settings-refusal};
 ghost use Rattle.code.specs.Entry.{Checks-says, Checks-put};
 use crate::sizes::GENERATOR_ROOM;
-use lanes::ROW_WIDTH;
 
 // The check values of a vector of n values, in the first 2t·w bytes of the output: 0, or the refusal 1, 2, 3 or 18.
 pub fn check_values(n: u32, t: u32, w: u32, vector: &[u8], output: &mut [u8]) -> u32
@@ -46,8 +46,6 @@ fn put_checks(n: usize, t: usize, w: usize, vector: &[u8], output: &mut [u8])
     let mut generator = [0u8; GENERATOR_ROOM];
     register::generator(&powers, &logarithms, &roots, count, &mut generator);
     let feedback = register::feedback(&powers, &logarithms, &generator, count);
-    let mut rows = planes::load(vector, n, w);
-    let end = ROW_WIDTH * (n + count);
-    register::divide(&feedback[..count], &mut rows[..end], n);
-    planes::store(&rows, n, count, w, output);
+    let windows = division::divide(&feedback, count, vector, n, w);
+    planes::store(&windows, n, count, w, output);
 }

@@ -1,21 +1,17 @@
-// The generator and the register that divides by it.
-//
-// Places are powers of x, and x^255 is 1 at every root, so column k is x^(-k): the register runs from column n down to
-// column 1 and takes no step through the places that are not in use.
+// The generator, and what the register that divides by it feeds back.
 ghost use mathlib.Core.Path.{_≡_};
 ghost use mathlib.Core.List.{_∷_};
-ghost use Prim.Native.Nat.{ℕ, _+_, _*_, _≤_, _<_};
+ghost use Prim.Native.Nat.{ℕ, _≤_};
 ghost use lib.ListN.{length, getD, replicate};
 ghost use Rattle.arrays.specs.Array.{Filled};
-ghost use Rattle.field.specs.Field.{plus, times, inverse};
+ghost use Rattle.field.specs.Field.{plus, times};
 ghost use Rattle.field.specs.Table.{Powers, Logarithms};
-ghost use Rattle.code.specs.Size.{most-columns, most-checks, generator-room};
-ghost use Rattle.lanes.specs.Lanes.{row-width, in-row};
+ghost use Rattle.code.specs.Size.{most-checks, generator-room};
 ghost use Rattle.code.specs.Polynomial.{Roots, generator as «generator-of»};
-ghost use Rattle.code.specs.Steps.Rows.{Divided};
+ghost use Rattle.code.specs.Steps.Windows.{Fed-back};
+use crate::sizes::FEEDBACK_ROOM;
 use crate::sizes::GENERATOR_ROOM;
 use crate::sizes::MOST_CHECKS;
-use lanes::ROW_WIDTH;
 
 // The polynomial becomes its product by (x + c), from the new highest coefficient on. Past its coefficients the array holds zeros.
 fn times_factor(
@@ -57,48 +53,22 @@ pub fn generator(
     times_factor(powers, logarithms, roots[many - 1], coefficients, many);
 }
 
-// The generator over its lowest coefficient, without that one: what the register feeds back.
+// The generator over its lowest coefficient, without that one: what the register feeds back. Zeros stand behind it.
 pub fn feedback(
     powers: &[u8; 255],
     logarithms: &[u8; 256],
     generator: &[u8; GENERATOR_ROOM],
     many: usize,
-) -> [u8; MOST_CHECKS]
+) -> [u8; FEEDBACK_ROOM]
     requires { ⌜ Powers (now powers) × Logarithms (now logarithms) × (many ≤ most-checks) ⌝ }
-    ensures { λ r. ⌜ Filled most-checks many (λ j. times (getD (now (generator .entry)) (j + 1) 0) (inverse (getD (now (generator .entry)) 0 0))) r ⌝ }
+    ensures { λ r. ⌜ Fed-back many (now (generator .entry)) r ⌝ }
 {
     let lowest = field::inverse_by(powers, logarithms, generator[0]);
-    let mut rest = [0u8; MOST_CHECKS];
+    let mut rest = [0u8; FEEDBACK_ROOM];
     let mut j = 0;
     while j < many {
         rest[j] = field::product_by(powers, logarithms, generator[j + 1], lowest);
         j += 1;
     }
     rest
-}
-
-// The row's bytes.
-fn row(rows: &[u8], s: usize) -> [u8; ROW_WIDTH]
-    requires { ⌜ (s < most-columns) × (row-width * s + row-width ≤ length (now rows)) ⌝ }
-    ensures { λ r. ⌜ Filled row-width row-width (λ p. getD (now (rows .entry)) (in-row s p) 0) r ⌝ }
-{
-    let mut value = [0u8; ROW_WIDTH];
-    arrays::copy(&mut value, 0, rows, ROW_WIDTH * s, ROW_WIDTH);
-    value
-}
-
-// Takes the rows of the columns out one after the other: each adds its multiples of the feedback to the rows above it.
-pub fn divide(feedback: &[u8], rows: &mut [u8], n: usize)
-    requires { ⌜ (n ≤ most-columns) × (length (now feedback) ≤ most-checks) × (length (now rows) ≡ row-width * (n + length (now feedback))) ⌝ }
-    ensures { λ _. ⌜ Divided n (n + length (now (feedback .entry))) (now (feedback .entry)) (now (rows .entry)) (now (rows .exit)) ⌝ }
-{
-    let many = feedback.len();
-    let mut s = 0;
-    while s < n {
-        let value = row(rows, s);
-        let from = ROW_WIDTH * s + ROW_WIDTH;
-        let to = from + ROW_WIDTH * many;
-        lanes::add_products(&value, feedback, &mut rows[from..to]);
-        s += 1;
-    }
 }

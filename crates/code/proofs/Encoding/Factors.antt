@@ -3,20 +3,24 @@
 -- the next; and the feedback is the generator over its lowest coefficient, without that one, so that a root times its value
 -- there is 1. Assumes nothing.
 use mathlib.Core.Path.{_≡_, refl, sym, _∙_, ap, ap₂, subst}
+use mathlib.Core.Bool.{true}
 use mathlib.Core.List.{List, [], _∷_}
 use Prim.Native.Nat.{ℕ, zero, suc, _+_, _-_, _≤_, _<_}
 use native.Mathlib.Omega.{arith}
 use native.Mathlib.Decide.{decLt}
 use lib.ListN.{length, getD, set, replicate, length-set, getD-replicate, List·getD-eq-default}
 use lib.Seq.{ext-getD, getD-set-same, getD-set-other}
-use Rattle.arrays.specs.Array.{Filled}
+use borrow.Author.Count.{below-more}
+use Rattle.arrays.specs.Array.{all-zero, Filled}
+use Rattle.arrays.proofs.Zeros.{zero-at}
 use Rattle.field.specs.Field.{plus, times, inverse}
 use Rattle.field.proofs.Xor.{plus-self, zero-plus, equal-of-plus-zero}
 use Rattle.field.proofs.Times.{times-lt, times-zero}
 use Rattle.field.proofs.Logarithm.{times-comm, times-left-comm}
 use Rattle.field.proofs.Division.{inverse-lt, times-inverse}
-use Rattle.code.specs.Size.{most-checks, generator-room}
+use Rattle.code.specs.Size.{most-checks, generator-room, feedback-room}
 use Rattle.code.specs.Polynomial.{eval, scaled, root, generator}
+use Rattle.code.specs.Steps.Windows.{Feedback, Fed-back}
 use Rattle.arrays.proofs.Bytes.{Bytes, byte-at}
 use Rattle.code.proofs.Polynomials.Arithmetic.{eval-scaled, getD-scaled, length-scaled}
 use Rattle.code.proofs.Polynomials.Generator.{root-lt, getD-factor, generator-length, generator-bytes, generator-root, generator-constant}
@@ -147,12 +151,37 @@ feedback-root many i hs h e at = go (generator many) (generator-length many) (ge
             a j (rw e at k) ∙ ap (λ (m : ℕ). times (getD (g ∷ gs) m 0) (inverse g)) (let q : j + 1 ≡ suc j = omega arith in q)
             ∙ times-comm (getD gs j 0) (inverse g) (byte-at gs j (b .1)) (inverse-lt g) ∙ sym (getD-scaled (inverse g) gs j (inverse-lt g)))
 
-pub feedback-filled :
-    (many : ℕ) (g hs : List ℕ) → many ≤ most-checks → Filled generator-room generator-room (λ i. getD (generator many) i 0) g →
-    Filled most-checks many (λ j. times (getD g (j + 1) 0) (inverse (getD g 0 0))) hs →
-    Filled most-checks many (λ j. times (getD (generator many) (j + 1) 0) (inverse (getD (generator many) 0 0))) hs
-feedback-filled many g hs h f w =
+pub feedback-of :
+    (many : ℕ) (g hs : List ℕ) → many ≤ most-checks → Filled generator-room generator-room (λ i. getD (generator many) i 0) g → Fed-back many g hs →
+    Fed-back many (generator many) hs
+feedback-of many g hs h f w =
     record {
       long = w .long;
-      new = λ j l. w .new j l ∙ ap₂ (λ (a b : ℕ). times a (inverse b)) (f .new (j + 1) (omega arith)) (f .new 0 (omega arith));
+      each = λ j l. w .each j l ∙ ap₂ (λ (a b : ℕ). times a (inverse b)) (f .new (j + 1) (omega arith)) (f .new 0 (omega arith));
+      behind = w .behind;
     }
+
+-- the feedback made byte by byte in zeros
+pub feedback-none : (g bytes : List ℕ) → length bytes ≡ feedback-room → all-zero bytes ≡ true → Fed-back 0 g bytes
+feedback-none g bytes e z = record { long = e; each = λ j h. absurd (omega arith); behind = λ j h. zero-at bytes z j }
+
+pub feedback-more :
+    (many v : ℕ) (g bytes : List ℕ) → many < feedback-room → Fed-back many g bytes → v ≡ times (getD g (many + 1) 0) (inverse (getD g 0 0)) →
+    Fed-back (many + 1) g (set bytes many v)
+feedback-more many v g bytes h w e =
+    record {
+      long = length-set bytes many v ∙ w .long;
+      each = below-more _ many (λ j l. getD-set-other bytes many j v 0 (omega arith) ∙ w .each j l) (getD-set-same bytes many v 0 (omega (arith, w .long)) ∙ e);
+      behind = λ j l. getD-set-other bytes many j v 0 (omega arith) ∙ w .behind j (omega arith);
+    }
+
+pub feedback-to : {many k : ℕ} {g bytes : List ℕ} → many ≡ k → Fed-back many g bytes → Fed-back k g bytes
+feedback-to {many} {k} {g} {bytes} e w = subst (λ (n : ℕ). Fed-back n g bytes) e w
+
+-- what is fed back is bytes
+pub feedback-bytes : (many : ℕ) (g bytes : List ℕ) → Fed-back many g bytes → Feedback many bytes
+feedback-bytes many g bytes w = record { long = w .long; fits = λ j. go j (decLt j many); behind = w .behind }
+  where
+    go : (j : ℕ) → Dec (j < many) → getD bytes j 0 < 256
+    go j (yes a) = rw (w .each j a) (times-lt _ _)
+    go j (no a) = rw (w .behind j (omega arith)) (omega arith)

@@ -28,6 +28,9 @@ value-ends j n w long h e = omega (arith, value-fits j n w h)
 pub start-fits : (j n w : ℕ) → j < n → Fits w64 (n * w) → Fits w64 (j * w)
 start-fits j n w h l = omega (arith, value-fits j n w h)
 
+pub end-fits : (j n w : ℕ) → j < n → Fits w64 (n * w) → Fits w64 (j * w + w)
+end-fits j n w h l = omega (arith, value-fits j n w h)
+
 -- values
 pub cut-length : (n w : ℕ) (bs : List ℕ) → length (cut n w bs) ≡ n
 unfolding cut

@@ -1,33 +1,30 @@
--- `feedback` meets its contract. Assumes nothing.
+-- `feedback` meets its contract: each turn makes one more byte. Assumes nothing.
 use mathlib.Core.Path.{_≡_, refl, _∙_, ap}
-use Prim.Native.Nat.{_+_, _-_, _≤_}
+use Prim.Native.Nat.{_-_, _≤_}
 use native.Mathlib.Omega.{arith}
-use lib.ListN.{getD}
 use borrow.Author.Needs.{needs}
-use Rattle.arrays.specs.Array.{Filled}
-use Rattle.arrays.proofs.Written.{filled-none, filled-more, filled-to}
-use Rattle.field.specs.Field.{times, inverse}
-use Rattle.code.specs.Size.{most-checks}
+use Rattle.field.specs.Field.{times}
+use Rattle.code.specs.Steps.Windows.{Fed-back}
+use Rattle.code.proofs.Encoding.Factors.{feedback-none, feedback-more, feedback-to}
 use Rattle.code.proofs.register.feedback.Statement.{statement}
 use Rattle.code.proofs.register.feedback.Tie as tie
 
 abbrev Inv-loop : tie.InvT-loop
-Inv-loop powers logarithms generator many lowest rest₀ j₀ rest j =
-    (j ≤ many) × Filled most-checks j (λ k. times (getD generator (k + 1) 0) (inverse (getD generator 0 0))) rest
+Inv-loop powers logarithms generator many lowest rest₀ j₀ rest j = (j ≤ many) × Fed-back j generator rest
 
 abbrev μ-loop : tie.MeasureT-loop
 μ-loop powers logarithms generator many lowest rest₀ j₀ rest j = many - j
 
 loop-holds : tie.Need-loop-holds Inv-loop μ-loop
-loop-holds c = (omega arith, filled-none most-checks _ _ refl)
+loop-holds c = (omega arith, feedback-none _ _ refl refl)
 
 loop-again : tie.Need-loop-again Inv-loop μ-loop
 loop-again c =
     let l = c .before .before .before in
-    (omega arith, filled-more most-checks _ _ _ _ (l .loop .inv .1) (omega arith) (c .product-by .ensures ∙ ap (times _) (l .before .inverse-by .ensures)))
+    (omega arith, feedback-more _ _ _ _ (omega arith) (l .loop .inv .1) (c .product-by .ensures ∙ ap (times _) (l .before .inverse-by .ensures)))
 
 returns : tie.Need-returns Inv-loop μ-loop
-returns c = filled-to (let e : c .before .loop .j ≡ _ = omega arith in e) (c .before .loop .inv .1)
+returns c = feedback-to (let e : c .before .loop .j ≡ _ = omega arith in e) (c .before .loop .inv .1)
 
 pub feedback-spec : {M : Type 1} → statement M
 feedback-spec =
