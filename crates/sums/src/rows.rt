@@ -3,7 +3,7 @@
 // A row's byte of plane p stands at p, and each row is worked on in all planes at once.
 
 ghost use mathlib.Core.Path.{_≡_};
-ghost use Prim.Native.Nat.{ℕ, _+_, _*_, _≤_};
+ghost use Prim.Native.Nat.{ℕ, _+_, _*_, _≤_, _<_};
 ghost use lib.ListN.{length, getD};
 ghost use Rattle.arrays.specs.Array.{Filled, Written};
 ghost use Rattle.field.specs.Field.{plus, power};
@@ -11,7 +11,6 @@ ghost use Rattle.field.specs.Table.{Powers, Logarithms};
 ghost use Rattle.code.specs.Size.{most-checks, check-rows};
 ghost use Rattle.lanes.specs.Lanes.{row-width, Products-added};
 ghost use Rattle.sums.specs.Rows.{Values-added, Root-logarithms, Exponents, Root-exponents, Check-sums};
-use crate::places::step_on;
 use code::sizes::CHECK_ROWS;
 use code::sizes::MOST_CHECKS;
 use lanes::ROW_WIDTH;
@@ -85,31 +84,43 @@ fn root_exponents(logarithms: &[u8; MOST_CHECKS], count: usize) -> [u8; MOST_CHE
     exponents
 }
 
-// From one power of each root to the one below: back by the root's logarithm is on by 255 less it, which takes no remainder.
-fn lower(logarithms: &[u8; MOST_CHECKS], exponents: &mut [u8; MOST_CHECKS], count: usize)
-    requires { ⌜ Root-logarithms (now logarithms) × (count ≤ most-checks) × Exponents count (now exponents) ⌝ }
-    ensures { λ _. ⌜ ((e : ℕ) → Root-exponents count (e + 1) (now (exponents .entry)) → Root-exponents count e (now (exponents .exit))) ⌝ }
+// A step back from an exponent of 2, below 255 again: 2^255 is 1. It stays in bytes, many of which are stepped at once.
+fn step_back_byte(exponent: u8, step: u8) -> u8
+    ensures { λ r. ⌜ (exponent < 255 → r < 255) × (power 2 (r + step) ≡ power 2 exponent) ⌝ }
+{
+    if exponent < step {
+        return exponent + (255 - step);
+    }
+    exponent - step
+}
+
+// From one power of each root to the one below, of all twenty roots: a number of turns that is known is worked off many at once.
+fn lower(logarithms: &[u8; MOST_CHECKS], exponents: &mut [u8; MOST_CHECKS])
+    requires { ⌜ Root-logarithms (now logarithms) × (length (now exponents) ≡ most-checks) ⌝ }
+    ensures { λ _. ⌜ ((count e : ℕ) → count ≤ most-checks → Root-exponents count (e + 1) (now (exponents .entry)) → Root-exponents count e (now (exponents .exit))) ⌝ }
 {
     let mut i = 0;
-    while i < count {
-        let step = 255 - logarithms[i] as usize;
-        exponents[i] = step_on(exponents[i] as usize, step) as u8;
+    while i < MOST_CHECKS {
+        exponents[i] = step_back_byte(exponents[i], logarithms[i]);
         i += 1;
     }
 }
 
-// The power of each of so many roots by its exponent.
-fn root_powers(powers: &[u8; 255], exponents: &[u8; MOST_CHECKS], count: usize) -> [u8; MOST_CHECKS]
-    requires { ⌜ Powers (now powers) × (count ≤ most-checks) × Exponents count (now exponents) ⌝ }
-    ensures { λ r. ⌜ Filled most-checks count (λ i. power 2 (getD (now (exponents .entry)) i 0)) r ⌝ }
+// The power of each of so many roots by its exponent, in front of the constants.
+fn put_root_powers(
+    powers: &[u8; 255],
+    exponents: &[u8; MOST_CHECKS],
+    count: usize,
+    constants: &mut [u8; MOST_CHECKS],
+)
+    requires { ⌜ Powers (now powers) × (count ≤ most-checks) × Exponents count (now exponents) × (length (now constants) ≡ most-checks) ⌝ }
+    ensures { λ _. ⌜ Filled most-checks count (λ i. power 2 (getD (now (exponents .entry)) i 0)) (now (constants .exit)) ⌝ }
 {
-    let mut constants = [0u8; MOST_CHECKS];
     let mut i = 0;
     while i < count {
         constants[i] = powers[exponents[i] as usize];
         i += 1;
     }
-    constants
 }
 
 // The syndromes of the difference: check c's byte belongs to the power count - 1 - c of each root. The exponents start one
@@ -125,11 +136,12 @@ pub fn syndromes(
 {
     let of_roots = root_logarithms(logarithms);
     let mut exponents = root_exponents(&of_roots, count);
+    let mut constants = [0u8; MOST_CHECKS];
     let mut sums = [0u8; CHECK_ROWS];
     let mut c = 0;
     while c < count {
-        lower(&of_roots, &mut exponents, count);
-        let constants = root_powers(powers, &exponents, count);
+        lower(&of_roots, &mut exponents);
+        put_root_powers(powers, &exponents, count, &mut constants);
         let at = ROW_WIDTH * c;
         let end = at + ROW_WIDTH;
         add_row(&difference[at..end], &constants[..count], &mut sums);

@@ -19,6 +19,10 @@ power-rounds i zero = ap (power 2) (let e : i + 255 * 0 ≡ i = omega arith in e
 power-rounds i (suc k) =
     ap (power 2) (let e : i + 255 * suc k ≡ i + 255 * k + 255 = omega arith in e) ∙ power-past (i + 255 * k) ∙ power-rounds i k
 
+-- exponents that are so many rounds apart
+pub power-around : (i k j : ℕ) → j ≡ i + 255 * k → power 2 j ≡ power 2 i
+power-around i k j e = ap (power 2) e ∙ power-rounds i k
+
 -- a place's powers, each a step on from the one before
 pub place-power-first : (e : ℕ) → power 2 e ≡ power (power 2 e) 1
 place-power-first e = ap (power 2) (let q : e ≡ e * 1 = omega arith in q) ∙ sym (power-mul e 1)
@@ -35,11 +39,12 @@ unfolding root
 root-power i e = power-mod ((first-exponent + i) * e) ∙ sym (power-mul (first-exponent + i) e)
 
 pub root-power-below :
-    (i e old new : ℕ) → i < most-checks → power 2 old ≡ power (root i) (e + 1) → power 2 new ≡ power 2 (old + (255 - (first-exponent + i))) →
+    (i e old new : ℕ) → i < most-checks → power 2 old ≡ power (root i) (e + 1) → power 2 (new + (first-exponent + i)) ≡ power 2 old →
     power 2 new ≡ power (root i) e
 unfolding root
 root-power-below i e old new h p q =
-    q ∙ sym (power-add old (255 - l)) ∙ ap (λ (x : ℕ). times x (power 2 (255 - l))) (p ∙ power-mul l (e + 1)) ∙ power-add (l * (e + 1)) (255 - l)
+    sym (power-around new 1 (new + l + (255 - l)) (omega arith)) ∙ sym (power-add (new + l) (255 - l))
+    ∙ ap (λ (x : ℕ). times x (power 2 (255 - l))) (q ∙ p ∙ power-mul l (e + 1)) ∙ power-add (l * (e + 1)) (255 - l)
     ∙ ap (power 2) around ∙ power-past (l * e) ∙ sym (power-mul l e)
   where
     l : ℕ
@@ -81,5 +86,5 @@ module _ (logarithms roots : List ℕ) (l : Logarithms logarithms) (r : Roots ro
 pub weight-inverse : (k : ℕ) → k < 254 → power 2 (first-exponent + k * first-exponent) ≡ inverse (power 2 (first-exponent * (254 - k)))
 unfolding inverse
 weight-inverse k h =
-    sym (power-rounds (first-exponent + k * first-exponent) (first-exponent * (253 - k)))
-    ∙ ap (power 2) (let e : first-exponent + k * first-exponent + 255 * (first-exponent * (253 - k)) ≡ first-exponent * (254 - k) * 254 = omega arith in e) ∙ sym (power-mul (first-exponent * (254 - k)) 254)
+    sym (power-around (first-exponent + k * first-exponent) (first-exponent * (253 - k)) (first-exponent * (254 - k) * 254) (omega arith))
+    ∙ sym (power-mul (first-exponent * (254 - k)) 254)

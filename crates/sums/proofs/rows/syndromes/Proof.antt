@@ -1,11 +1,12 @@
 -- `syndromes` meets its contract: each turn goes one power of the roots down and adds the terms of one more check. Assumes nothing.
 use mathlib.Core.Path.{_≡_, refl, sym, subst}
 use mathlib.Core.List.{List}
-use Prim.Native.Nat.{ℕ, _+_, _-_, _≤_}
+use Prim.Native.Nat.{ℕ, _+_, _-_, _≤_, _<_}
 use native.Mathlib.Omega.{arith}
-use lib.ListN.{take}
+use lib.ListN.{length, take}
 use Rattle.arrays.specs.Array.{Filled}
 use Rattle.field.specs.Field.{power}
+use Rattle.code.specs.Size.{most-checks}
 use Rattle.code.specs.Polynomial.{root}
 use Rattle.sums.specs.Rows.{Root-exponents, Check-sums}
 use Rattle.lanes.proofs.Lane.{row-length, row-at}
@@ -15,33 +16,36 @@ use Rattle.sums.proofs.rows.syndromes.Statement.{statement}
 use Rattle.sums.proofs.rows.syndromes.Tie as tie
 
 abbrev Inv-loop : tie.InvT-loop
-Inv-loop powers logarithms difference count of-roots exponents₀ sums₀ c₀ exponents sums c =
-    (c ≤ count) × Root-exponents count (count - c) exponents × Check-sums c count difference sums
+Inv-loop powers logarithms difference count of-roots exponents₀ constants₀ sums₀ c₀ exponents constants sums c =
+    (c ≤ count) × Root-exponents count (count - c) exponents × (length constants ≡ most-checks) × Check-sums c count difference sums
 
 abbrev μ-loop : tie.MeasureT-loop
-μ-loop powers logarithms difference count of-roots exponents₀ sums₀ c₀ exponents sums c = count - c
+μ-loop powers logarithms difference count of-roots exponents₀ constants₀ sums₀ c₀ exponents constants sums c = count - c
 
--- the turn in which the exponents were lowered, and what was known before the loop
+-- the turn in which the exponents were lowered, what was known before the loop, and that the turn has a row
 abbrev turn : tie.After-lower Inv-loop μ-loop → tie.At-loop Inv-loop μ-loop
 turn c = c .before .before .before .before
 
 abbrev start : tie.At-loop Inv-loop μ-loop → tie.Start Inv-loop μ-loop
 start l = l .before .before .before .before .before
 
+more : (c : tie.After-lower Inv-loop μ-loop) → turn c .loop .c < start (turn c) .args .count
+more c = c .before .before .before .loop-test .taken
+
 exponents-of : {many d e : ℕ} {bytes : List ℕ} → d ≡ e → Root-exponents many d bytes → Root-exponents many e bytes
 exponents-of {many = many} {bytes = bytes} q r = subst (λ (k : ℕ). Root-exponents many k bytes) q r
 
 -- the exponents of a turn, and the constants that they make
 lowered : (c : tie.After-lower Inv-loop μ-loop) → Root-exponents (start (turn c) .args .count) (start (turn c) .args .count - (turn c .loop .c + 1)) (c .lower .last .1 .0)
-lowered c = c .lower .ensures _ (exponents-of (omega arith) (turn c .loop .inv .1))
+lowered c = c .lower .ensures _ _ (start (turn c) .pre .2) (exponents-of (omega arith) (turn c .loop .inv .1))
 
-abbrev lowering : tie.After-root-powers Inv-loop μ-loop → tie.After-lower Inv-loop μ-loop
-lowering c = c .before .before
+abbrev lowering : tie.After-put-root-powers Inv-loop μ-loop → tie.After-lower Inv-loop μ-loop
+lowering c = c .before .before .before
 
 constants :
-    (c : tie.After-root-powers Inv-loop μ-loop) → let l = turn (lowering c) in let count = start l .args .count in
-    Filled count count (λ i. power (root i) (count - (l .loop .c + 1))) (take count (c .root-powers .result))
-constants c = filled-prefix _ _ _ (start (turn (lowering c)) .pre .2) (lowered (lowering c) .same) (c .root-powers .ensures)
+    (c : tie.After-put-root-powers Inv-loop μ-loop) → let l = turn (lowering c) in let count = start l .args .count in
+    Filled count count (λ i. power (root i) (count - (l .loop .c + 1))) (take count (c .put-root-powers .last .1 .1 .1 .0))
+constants c = filled-prefix _ _ _ (start (turn (lowering c)) .pre .2) (lowered (lowering c) .same) (c .put-root-powers .ensures)
 
 root-logarithms-requires : tie.Need-root-logarithms-requires Inv-loop μ-loop
 root-logarithms-requires c κs = c .before .pre .1
@@ -50,28 +54,30 @@ root-exponents-requires : tie.Need-root-exponents-requires Inv-loop μ-loop
 root-exponents-requires c κs = let made = c .before in (made .root-logarithms .ensures, made .before .before .pre .2)
 
 loop-holds : tie.Need-loop-holds Inv-loop μ-loop
-loop-holds c = (omega arith, exponents-of (omega arith) (c .root-exponents .ensures), check-sums-none _ _ _ refl refl)
+loop-holds c = (omega arith, exponents-of (omega arith) (c .root-exponents .ensures), refl, check-sums-none _ _ _ refl refl)
 
 lower-requires : tie.Need-lower-requires Inv-loop μ-loop
-lower-requires c κs = let l = c .before .before .before in (l .before .before .before .root-logarithms .ensures, start l .pre .2, l .loop .inv .1 .exponents)
+lower-requires c κs = let l = c .before .before .before in (l .before .before .before .root-logarithms .ensures, l .loop .inv .1 .exponents .long)
 
-root-powers-requires : tie.Need-root-powers-requires Inv-loop μ-loop
-root-powers-requires c κs = (start (turn (c .before)) .pre .0, start (turn (c .before)) .pre .2, lowered (c .before) .exponents)
+put-root-powers-requires : tie.Need-put-root-powers-requires Inv-loop μ-loop
+put-root-powers-requires c κs =
+    let l = turn (c .before .before) in
+    (start l .pre .0, start l .pre .2, lowered (c .before .before) .exponents, l .loop .inv .2)
 
 array-share-prefix-constants : tie.Need-array-share-prefix-constants Inv-loop μ-loop
-array-share-prefix-constants c = omega (arith, c .before .root-powers .ensures .long)
+array-share-prefix-constants c = omega (arith, c .before .put-root-powers .ensures .long)
 
 slice-aggregate-add-row : tie.Need-slice-aggregate-add-row Inv-loop μ-loop
 slice-aggregate-add-row c = sym (constants (c .before .before) .long)
 
 slice-aggregate-add-row-2 : tie.Need-slice-aggregate-add-row-2 Inv-loop μ-loop
-slice-aggregate-add-row-2 c = let l = turn (lowering (c .before .before .before)) in omega (arith, l .loop .inv .2 .long)
+slice-aggregate-add-row-2 c = let l = turn (lowering (c .before .before .before)) in omega (arith, l .loop .inv .3 .long)
 
 add-row-requires : tie.Need-add-row-requires Inv-loop μ-loop
 add-row-requires c κs =
     let raised = c .before .before .before in
     let l = turn (lowering raised) in
-    (row-length (start l .args .difference .now) (l .loop .c) (omega arith), rw (constants raised .long) (omega (arith, l .loop .inv .2 .long)))
+    (row-length (start l .args .difference .now) (l .loop .c) (omega arith), rw (constants raised .long) (omega (arith, l .loop .inv .3 .long)))
 
 loop-again : tie.Need-loop-again Inv-loop μ-loop
 loop-again c =
@@ -79,13 +85,14 @@ loop-again c =
     let raised = added .before .before .before .before in
     let l = turn (lowering raised) in
     let d = start l .args .difference .now in (
-      omega arith,
+      omega (arith, more (lowering raised)),
       lowered (lowering raised),
-      check-sums-more (l .loop .c) _ _ d _ _ _ (omega arith) (l .loop .inv .2) (row-at d (l .loop .c)) (terms-of-products _ _ _ _ _ _ (constants raised) (added .add-row .ensures)),
+      raised .put-root-powers .ensures .long,
+      check-sums-more (l .loop .c) _ _ d _ _ _ (omega arith) (l .loop .inv .3) (row-at d (l .loop .c)) (terms-of-products _ _ _ _ _ _ (constants raised) (added .add-row .ensures)),
     )
 
 returns : tie.Need-returns Inv-loop μ-loop
-returns c = check-sums-whole (let e : c .before .loop .c ≡ _ = omega arith in e) (c .before .loop .inv .2)
+returns c = check-sums-whole (let e : c .before .loop .c ≡ _ = omega arith in e) (c .before .loop .inv .3)
 
 pub syndromes-spec : {M : Type 1} → statement M
 syndromes-spec =
@@ -97,7 +104,7 @@ syndromes-spec =
     root-exponents-requires
     loop-holds
     lower-requires
-    root-powers-requires
+    put-root-powers-requires
     (λ c. omega arith)
     (λ c. omega arith)
     (λ c. omega arith)

@@ -1,5 +1,5 @@
--- `root_powers` meets its contract: the table holds the powers of 2. Assumes nothing.
-use mathlib.Core.Path.{_≡_, refl}
+-- `put_root_powers` meets its contract: the table holds the powers of 2. Assumes nothing.
+use mathlib.Core.Path.{_≡_}
 use Prim.Native.Nat.{_-_, _≤_}
 use native.Mathlib.Omega.{arith}
 use lib.ListN.{getD}
@@ -8,8 +8,8 @@ use Rattle.arrays.proofs.Written.{filled-none, filled-more, filled-to}
 use Rattle.field.specs.Field.{power}
 use Rattle.field.proofs.Table.{powers-at}
 use Rattle.code.specs.Size.{most-checks}
-use Rattle.sums.proofs.rows.root_powers.Statement.{statement}
-use Rattle.sums.proofs.rows.root_powers.Tie as tie
+use Rattle.sums.proofs.rows.put_root_powers.Statement.{statement}
+use Rattle.sums.proofs.rows.put_root_powers.Tie as tie
 
 abbrev Inv-loop : tie.InvT-loop
 Inv-loop powers exponents count constants₀ i₀ constants i = (i ≤ count) × Filled most-checks i (λ k. power 2 (getD exponents k 0)) constants
@@ -18,7 +18,7 @@ abbrev μ-loop : tie.MeasureT-loop
 μ-loop powers exponents count constants₀ i₀ constants i = count - i
 
 loop-holds : tie.Need-loop-holds Inv-loop μ-loop
-loop-holds c = (omega arith, filled-none _ _ _ refl)
+loop-holds c = (omega arith, filled-none _ _ _ (c .pre .3))
 
 cast-constants : tie.Need-cast-constants Inv-loop μ-loop
 cast-constants c = let l = c .before .before in omega (arith, l .before .pre .2 .small (l .loop .i) (omega arith))
@@ -35,8 +35,8 @@ loop-again c =
 returns : tie.Need-returns Inv-loop μ-loop
 returns c = filled-to (let e : c .before .loop .i ≡ _ = omega arith in e) (c .before .loop .inv .1)
 
-pub root-powers-spec : {M : Type 1} → statement M
-root-powers-spec =
+pub put-root-powers-spec : {M : Type 1} → statement M
+put-root-powers-spec =
     tie.close
     (tie.spec
     Inv-loop
