@@ -18,7 +18,7 @@ most-checks = 2 * most-bad
 abbrev pub generator-room : ℕ
 generator-room = most-checks + 1
 
--- rows that have a byte for each check
+-- rows that have a byte for each check, side by side as the planes are in others
 abbrev pub feedback-rows : ℕ
 feedback-rows = 3
 

@@ -2,16 +2,15 @@
 //
 // Places are powers of x, and x^255 is 1 at every root, so column k is x^(-k): the register runs from column n down to column 1 and takes
 // no step through the places that are not in use. Each plane has a window of bytes. With each column its register stands one byte further
-// on there, so that nothing is shifted; and planes take turns, so that a step waits for none before it.
+// on there, so that nothing is shifted; and planes take turns, so that a step need not wait for the one just before it.
 ghost use mathlib.Core.Path.{_≡_};
 ghost use mathlib.Core.List.{List};
 ghost use Prim.Native.Nat.{ℕ, _+_, _*_, _≤_, _<_};
 ghost use lib.ListN.{length, getD, take};
-ghost use Rattle.arrays.specs.Array.{Written};
-ghost use Rattle.field.specs.Field.{plus, times};
+ghost use Rattle.field.specs.Field.{plus};
 ghost use Rattle.lanes.specs.Lanes.{row-width, table-room, Row-tables};
 ghost use Rattle.code.specs.Size.{most-columns, most-checks, value-room, windows-room};
-ghost use Rattle.code.specs.Steps.Windows.{Feedback, One-or-all, Enough-rows, Fed, Divided};
+ghost use Rattle.code.specs.Steps.Windows.{Feedback, One-or-all, Enough-rows, Rows-added, Fed, Divided};
 use crate::sizes::FEEDBACK_ROOM;
 use crate::sizes::FEEDBACK_ROWS;
 use crate::sizes::FEEDBACK_TABLES;
@@ -37,7 +36,7 @@ fn rows_for(count: usize) -> usize
 fn feed(tables: &[u8], rows: usize, byte: u8, windows: &mut [u8], at: usize)
     requires { ⌜ One-or-all rows × (table-room * rows ≤ length (now tables)) × (at + 1 + row-width * rows ≤ length (now windows)) ⌝ }
     ensures { λ _. ⌜ ((hs : List ℕ) → ((i : ℕ) → getD hs i 0 < 256) → Row-tables 0 rows hs (now (tables .entry)) →
-        Written (at + 1) (row-width * rows) (λ j. plus (getD (now (windows .entry)) (at + 1 + j) 0) (times (getD hs j 0) (plus byte (getD (now (windows .entry)) at 0)))) (now (windows .entry)) (now (windows .exit))) ⌝ }
+        Rows-added (at + 1) rows (plus byte (getD (now (windows .entry)) at 0)) hs (now (windows .entry)) (now (windows .exit))) ⌝ }
 {
     let out = field::sum(byte, windows[at]);
     add_from_tables(tables, 0, out, windows, at + 1);

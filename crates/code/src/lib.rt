@@ -1,10 +1,10 @@
 // The Reed-Solomon code over byte planes: check values.
 mod division;
-mod planes;
-mod register;
+mod generator;
 pub mod roots;
 pub mod settings;
 pub mod sizes;
+mod storing;
 
 ghost use mathlib.Core.Path.{_≡_};
 ghost use Prim.Native.Nat.{_*_, _≤_};
@@ -44,8 +44,8 @@ fn put_checks(n: usize, t: usize, w: usize, vector: &[u8], output: &mut [u8])
     let roots = roots::roots();
     let count = 2 * t;
     let mut generator = [0u8; GENERATOR_ROOM];
-    register::generator(&powers, &logarithms, &roots, count, &mut generator);
-    let feedback = register::feedback(&powers, &logarithms, &generator, count);
+    generator::generator(&powers, &logarithms, &roots, count, &mut generator);
+    let feedback = generator::feedback(&powers, &logarithms, &generator, count);
     let windows = division::divide(&feedback, count, vector, n, w);
-    planes::store(&windows, n, count, w, output);
+    storing::store(&windows, n, count, w, output);
 }

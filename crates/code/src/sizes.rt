@@ -13,7 +13,7 @@ pub const MOST_CHECKS: usize = 2 * MOST_BAD;
 // The generator's coefficients: one more than its roots.
 pub const GENERATOR_ROOM: usize = MOST_CHECKS + 1;
 
-// Rows that have a byte for each check.
+// Rows that have a byte for each check, side by side as the planes are in others.
 pub const FEEDBACK_ROWS: usize = 3;
 
 // Room for what the register feeds back, and for the tables of its rows.

@@ -1,6 +1,6 @@
 -- Both tables of a value in one array. The low half of a constant and its high half each have a row, and the two rows added are the
 -- product. Assumes nothing.
-use mathlib.Core.Path.{_≡_, _∙_, ap, ap₂, subst}
+use mathlib.Core.Path.{_≡_, refl, _∙_, ap, ap₂, subst}
 use mathlib.Core.List.{List}
 use Prim.Native.Nat.{ℕ, _+_, _*_, _/_, _%_, _≤_, _<_}
 use native.Mathlib.Omega.{arith}
@@ -9,7 +9,7 @@ use lib.ListN.{length, getD}
 use Rattle.arrays.specs.Array.{Written}
 use Rattle.arrays.proofs.Written.{written-as}
 use Rattle.field.specs.Field.{plus, doubled, times}
-use Rattle.lanes.specs.Lanes.{row-width, multiple-rows, table-room, in-row, Multiples, Tables, Tables-put, Row-tables}
+use Rattle.lanes.specs.Lanes.{row-width, multiple-rows, table-room, in-row, Multiples, Tables, Tables-put, Row-tables-put}
 use Rattle.lanes.proofs.Multiples.{times-halves}
 
 -- two copies, one behind the other
@@ -51,21 +51,27 @@ halves-added at c to f tables rows now h byte t w =
     w
 
 -- the tables of rows, one row more
-pub row-tables-none : (first : ℕ) (rows tables : List ℕ) → table-room * first ≤ length tables → Row-tables first first rows tables
-row-tables-none first rows tables e = record { room = e; each = λ m h l. absurd (omega arith) }
+pub row-tables-none : (first : ℕ) (rows tables : List ℕ) → table-room * first ≤ length tables → Row-tables-put first first rows tables tables
+row-tables-none first rows tables e =
+    record { long = refl; put = record { room = e; each = λ m h l. absurd (omega arith) }; before = λ i h. refl; after = λ i h. refl }
 
 pub row-tables-more :
-    (first many : ℕ) (f : ℕ → ℕ) (rows tables now : List ℕ) → ((p : ℕ) → p < row-width → f p ≡ getD rows (in-row many p) 0) →
-    Row-tables first many rows tables → table-room * (many + 1) ≤ length tables → Tables-put (table-room * many) f tables now →
-    Row-tables first (many + 1) rows now
-row-tables-more first many f rows tables now same t room w =
-    record { room = omega (arith, w .long); each = λ m h l. each m h l (decLt m many) }
+    (first many : ℕ) (f : ℕ → ℕ) (rows tables middle now : List ℕ) → first ≤ many → ((p : ℕ) → p < row-width → f p ≡ getD rows (in-row many p) 0) →
+    Row-tables-put first many rows tables middle → table-room * (many + 1) ≤ length tables → Tables-put (table-room * many) f middle now →
+    Row-tables-put first (many + 1) rows tables now
+row-tables-more first many f rows tables middle now some same t room w =
+    record {
+      long = w .long ∙ t .long;
+      put = record { room = omega (arith, w .long, t .long); each = λ m h l. each m h l (decLt m many) };
+      before = λ i h. w .before i (omega arith) ∙ t .before i h;
+      after = λ i h. w .after i (omega arith) ∙ t .after i (omega arith);
+    }
   where
     each : (m : ℕ) → first ≤ m → m < many + 1 → Dec (m < many) → Tables (table-room * m) (λ p. getD rows (in-row m p) 0) now
     each m h l (yes a) =
         record {
-          low = λ k p g o. w .before _ (omega arith) ∙ t .each m h a .low k p g o;
-          high = λ k p g o. w .before _ (omega arith) ∙ t .each m h a .high k p g o;
+          low = λ k p g o. w .before _ (omega arith) ∙ t .put .each m h a .low k p g o;
+          high = λ k p g o. w .before _ (omega arith) ∙ t .put .each m h a .high k p g o;
         }
     each m h l (no a) =
         let e : m ≡ many = omega arith in
@@ -75,5 +81,5 @@ row-tables-more first many f rows tables now same t room w =
           high = λ k p g o. w .put .high k p g o ∙ ap (λ (b : ℕ). times (doubled (times b 8)) k) (same p o);
         })
 
-pub row-tables-to : {first many k : ℕ} {rows tables : List ℕ} → many ≡ k → Row-tables first many rows tables → Row-tables first k rows tables
-row-tables-to {first} {many} {k} {rows} {tables} e t = subst (λ (i : ℕ). Row-tables first i rows tables) e t
+pub row-tables-to : {first many k : ℕ} {rows tables now : List ℕ} → many ≡ k → Row-tables-put first many rows tables now → Row-tables-put first k rows tables now
+row-tables-to {first} {many} {k} {rows} {tables} {now} e t = subst (λ (i : ℕ). Row-tables-put first i rows tables now) e t

@@ -49,6 +49,13 @@ pub record Row-tables (first many : ℕ) (rows tables : List ℕ) : Type 0 where
   pub room : table-room * many ≤ length tables
   pub each : (m : ℕ) → first ≤ m → m < many → Tables (table-room * m) (λ p. getD rows (in-row m p) 0) tables
 
+-- and every other byte is kept
+pub record Row-tables-put (first many : ℕ) (rows tables tables-now : List ℕ) : Type 0 where
+  pub long : length tables-now ≡ length tables
+  pub put : Row-tables first many rows tables-now
+  pub before : (i : ℕ) → i < table-room * first → getD tables-now i 0 ≡ getD tables i 0
+  pub after : (i : ℕ) → table-room * many ≤ i → getD tables-now i 0 ≡ getD tables i 0
+
 -- where the first rows are so many multiples of any value of bytes, they now are more of them
 abbrev pub Continued : (many more : ℕ) → (rows rows-now : List ℕ) → Type 0
 Continued many more rows rows-now = (f : ℕ → ℕ) → ((p : ℕ) → f p < 256) → Multiples many f rows → Multiples more f rows-now

@@ -1,4 +1,5 @@
-// Byte planes worked on side by side: a row has a byte of each plane.
+// Byte planes worked on side by side: a row has a byte of each plane. What a register feeds back stands in such rows too, a byte of each
+// check side by side.
 //
 // A value times a constant is two rows of its multiples, one for each half of the constant, so that a product in all planes is
 // two additions. Loops over the bytes of a row compile to one step on the whole row.
@@ -9,7 +10,7 @@ ghost use lib.Dec.{eqb};
 ghost use lib.ListN.{length, getD};
 ghost use Rattle.arrays.specs.Array.{Written};
 ghost use Rattle.field.specs.Field.{plus, doubled, times};
-ghost use Rattle.lanes.specs.Lanes.{row-width, multiple-rows, table-room, in-row, Multiples, Tables, Tables-put, Row-tables, Continued, Doublings, Products-added};
+ghost use Rattle.lanes.specs.Lanes.{row-width, multiple-rows, table-room, in-row, Multiples, Tables, Tables-put, Row-tables-put, Continued, Doublings, Products-added};
 
 // The byte planes that a row has room for, and so at least the most bytes of a value.
 pub const ROW_WIDTH: usize = 8;
@@ -223,7 +224,7 @@ pub fn put_tables(value: &[u8], tables: &mut [u8], at: usize)
 // Both tables of each row from the first named on, each pair at its row's number.
 pub fn put_row_tables(rows: &[u8], first: usize, many: usize, tables: &mut [u8])
     requires { ⌜ (first ≤ many) × (row-width * many ≤ length (now rows)) × (table-room * many ≤ length (now tables)) ⌝ }
-    ensures { λ _. ⌜ (length (now (tables .exit)) ≡ length (now (tables .entry))) × Row-tables first many (now (rows .entry)) (now (tables .exit)) ⌝ }
+    ensures { λ _. ⌜ Row-tables-put first many (now (rows .entry)) (now (tables .entry)) (now (tables .exit)) ⌝ }
 {
     let mut m = first;
     while m < many {

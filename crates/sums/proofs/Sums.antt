@@ -1,4 +1,5 @@
 -- Sums over rows of all planes.
+pub mod Exponents
 pub mod Terms
 pub mod CheckRows
 pub mod CheckSums

@@ -32,6 +32,13 @@ pub record Root-exponents (many e : ℕ) (bytes : List ℕ) : Type 0 where
   pub exponents : Exponents many bytes
   pub same : (i : ℕ) → i < many → power 2 (getD bytes i 0) ≡ power (root i) e
 
+-- every exponent of the old ones has gone back by its root's logarithm, 255 coming round to 0
+pub record Lowered (many : ℕ) (old now : List ℕ) : Type 0 where
+  pub long : length now ≡ most-checks
+  pub small : (i : ℕ) → i < many → getD old i 0 < 255 → getD now i 0 < 255
+  pub back : (i : ℕ) → i < many → power 2 (getD now i 0 + (first-exponent + i)) ≡ power 2 (getD old i 0)
+  pub rest : (i : ℕ) → many ≤ i → getD now i 0 ≡ getD old i 0
+
 -- row i is at each plane the sum at root i of the first rows of checks, of which there are `count`
 pub record Check-sums (many count : ℕ) (checks sums : List ℕ) : Type 0 where
   pub long : length sums ≡ check-rows

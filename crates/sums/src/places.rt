@@ -8,7 +8,7 @@ ghost use Rattle.arrays.specs.Array.{Filled, Written};
 ghost use Rattle.field.specs.Field.{power};
 ghost use Rattle.field.specs.Table.{Powers, Logarithms};
 ghost use Rattle.code.specs.Size.{most-columns, most-checks, most-bad};
-ghost use Rattle.lanes.specs.Lanes.{row-width, table-room, lane};
+ghost use Rattle.lanes.specs.Lanes.{row-width, lane};
 ghost use Rattle.code.specs.Polynomial.{eval, first-exponent};
 ghost use Rattle.locator.specs.Errors.{place-exponent};
 ghost use Rattle.sums.specs.Places.{Coefficient-tables};

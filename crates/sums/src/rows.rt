@@ -3,14 +3,14 @@
 // A row's byte of plane p stands at p, and each row is worked on in all planes at once.
 
 ghost use mathlib.Core.Path.{_≡_};
-ghost use Prim.Native.Nat.{ℕ, _+_, _*_, _≤_, _<_};
+ghost use Prim.Native.Nat.{_+_, _*_, _≤_, _<_};
 ghost use lib.ListN.{length, getD};
 ghost use Rattle.arrays.specs.Array.{Filled, Written};
 ghost use Rattle.field.specs.Field.{plus, power};
 ghost use Rattle.field.specs.Table.{Powers, Logarithms};
 ghost use Rattle.code.specs.Size.{most-checks, check-rows};
 ghost use Rattle.lanes.specs.Lanes.{row-width, Products-added};
-ghost use Rattle.sums.specs.Rows.{Values-added, Root-logarithms, Exponents, Root-exponents, Check-sums};
+ghost use Rattle.sums.specs.Rows.{Values-added, Root-logarithms, Exponents, Root-exponents, Lowered, Check-sums};
 use code::sizes::CHECK_ROWS;
 use code::sizes::MOST_CHECKS;
 use lanes::ROW_WIDTH;
@@ -97,7 +97,7 @@ fn step_back_byte(exponent: u8, step: u8) -> u8
 // From one power of each root to the one below, of all twenty roots: a number of turns that is known is worked off many at once.
 fn lower(logarithms: &[u8; MOST_CHECKS], exponents: &mut [u8; MOST_CHECKS])
     requires { ⌜ Root-logarithms (now logarithms) × (length (now exponents) ≡ most-checks) ⌝ }
-    ensures { λ _. ⌜ ((count e : ℕ) → count ≤ most-checks → Root-exponents count (e + 1) (now (exponents .entry)) → Root-exponents count e (now (exponents .exit))) ⌝ }
+    ensures { λ _. ⌜ Lowered most-checks (now (exponents .entry)) (now (exponents .exit)) ⌝ }
 {
     let mut i = 0;
     while i < MOST_CHECKS {
@@ -114,7 +114,7 @@ fn put_root_powers(
     constants: &mut [u8; MOST_CHECKS],
 )
     requires { ⌜ Powers (now powers) × (count ≤ most-checks) × Exponents count (now exponents) × (length (now constants) ≡ most-checks) ⌝ }
-    ensures { λ _. ⌜ Filled most-checks count (λ i. power 2 (getD (now (exponents .entry)) i 0)) (now (constants .exit)) ⌝ }
+    ensures { λ _. ⌜ Written 0 count (λ i. power 2 (getD (now (exponents .entry)) i 0)) (now (constants .entry)) (now (constants .exit)) ⌝ }
 {
     let mut i = 0;
     while i < count {

@@ -14,15 +14,15 @@ use Rattle.code.specs.Polynomial.{eval, added, root, generator}
 use Rattle.code.specs.Plane.{is-codeword}
 use Rattle.code.specs.Vector.{plane, cut}
 use Rattle.code.specs.Entry.{values-in, Checks-put}
-use Rattle.code.specs.Steps.Windows.{window, taken-in, Fed-back, Divided, Stored}
-use Rattle.arrays.proofs.Bytes.{Bytes, bytes-drop}
+use Rattle.code.specs.Steps.Windows.{window, taken-in, Feedback-of, Divided, Stored}
+use Rattle.arrays.proofs.Bytes.{Bytes, bytes-drop, getD-reverse}
 use Rattle.code.proofs.Polynomials.Generator.{root-lt}
 use Rattle.code.proofs.ValidSettings.{Sizes, sizes}
 use Rattle.code.proofs.Vectors.Planes.{plane-bytes, checked-back}
 use Rattle.code.proofs.Vectors.Cut.{cut-length, cut-values, plane-cut, plane-cut-length, in-front-cut}
 use Rattle.code.proofs.Encoding.Factors.{feedback-root}
 use Rattle.code.proofs.Encoding.Division.{divided-codeword}
-use Rattle.code.proofs.Encoding.Windows.{getD-reverse, window-length, window-at, window-bytes, coming-length}
+use Rattle.code.proofs.Encoding.Windows.{window-length, window-at, window-bytes, coming-length}
 
 -- what the windows have behind the columns, as it is stored
 module _ (n count size p : ℕ) (windows out now : List ℕ) (inside : p < size) (few : size ≤ value-room) (narrow : n + count ≤ window-room) (long : length windows ≡ windows-room) where
@@ -96,7 +96,7 @@ encoded s p vector hs windows out now q h few narrow l b e feed v w =
 -- the whole vector: every plane has its checks, and they stand in front of the output
 pub checks-put :
     (n t w : ℕ) (vector feedback windows out now : List ℕ) → settings-refusal (settings n t w) ≡ 0 → length vector ≡ n * w → Bytes vector →
-    Fed-back (2 * t) (generator (2 * t)) feedback → Divided n n w (n + 2 * t) (take (2 * t) feedback) vector windows → Stored (2 * t) n (2 * t) w windows out now →
+    Feedback-of (2 * t) (generator (2 * t)) feedback → Divided n n w (n + 2 * t) (take (2 * t) feedback) vector windows → Stored (2 * t) n (2 * t) w windows out now →
     2 * t * w ≤ length out → Bytes now → Checks-put (settings n t w) vector out now
 unfolding Checks-put settings values-in check-count value-size
 checks-put n t w vector feedback windows out now q l b feed v st room c = (

@@ -20,7 +20,7 @@ use Rattle.field.proofs.Logarithm.{times-comm, times-left-comm}
 use Rattle.field.proofs.Division.{inverse-lt, times-inverse}
 use Rattle.code.specs.Size.{most-checks, generator-room, feedback-room}
 use Rattle.code.specs.Polynomial.{eval, scaled, root, generator}
-use Rattle.code.specs.Steps.Windows.{Feedback, Fed-back}
+use Rattle.code.specs.Steps.Windows.{Feedback, Feedback-of}
 use Rattle.arrays.proofs.Bytes.{Bytes, byte-at}
 use Rattle.code.proofs.Polynomials.Arithmetic.{eval-scaled, getD-scaled, length-scaled}
 use Rattle.code.proofs.Polynomials.Generator.{root-lt, getD-factor, generator-length, generator-bytes, generator-root, generator-constant}
@@ -152,8 +152,8 @@ feedback-root many i hs h e at = go (generator many) (generator-length many) (ge
             ∙ times-comm (getD gs j 0) (inverse g) (byte-at gs j (b .1)) (inverse-lt g) ∙ sym (getD-scaled (inverse g) gs j (inverse-lt g)))
 
 pub feedback-of :
-    (many : ℕ) (g hs : List ℕ) → many ≤ most-checks → Filled generator-room generator-room (λ i. getD (generator many) i 0) g → Fed-back many g hs →
-    Fed-back many (generator many) hs
+    (many : ℕ) (g hs : List ℕ) → many ≤ most-checks → Filled generator-room generator-room (λ i. getD (generator many) i 0) g → Feedback-of many g hs →
+    Feedback-of many (generator many) hs
 feedback-of many g hs h f w =
     record {
       long = w .long;
@@ -162,12 +162,12 @@ feedback-of many g hs h f w =
     }
 
 -- the feedback made byte by byte in zeros
-pub feedback-none : (g bytes : List ℕ) → length bytes ≡ feedback-room → all-zero bytes ≡ true → Fed-back 0 g bytes
+pub feedback-none : (g bytes : List ℕ) → length bytes ≡ feedback-room → all-zero bytes ≡ true → Feedback-of 0 g bytes
 feedback-none g bytes e z = record { long = e; each = λ j h. absurd (omega arith); behind = λ j h. zero-at bytes z j }
 
 pub feedback-more :
-    (many v : ℕ) (g bytes : List ℕ) → many < feedback-room → Fed-back many g bytes → v ≡ times (getD g (many + 1) 0) (inverse (getD g 0 0)) →
-    Fed-back (many + 1) g (set bytes many v)
+    (many v : ℕ) (g bytes : List ℕ) → many < feedback-room → Feedback-of many g bytes → v ≡ times (getD g (many + 1) 0) (inverse (getD g 0 0)) →
+    Feedback-of (many + 1) g (set bytes many v)
 feedback-more many v g bytes h w e =
     record {
       long = length-set bytes many v ∙ w .long;
@@ -175,11 +175,11 @@ feedback-more many v g bytes h w e =
       behind = λ j l. getD-set-other bytes many j v 0 (omega arith) ∙ w .behind j (omega arith);
     }
 
-pub feedback-to : {many k : ℕ} {g bytes : List ℕ} → many ≡ k → Fed-back many g bytes → Fed-back k g bytes
-feedback-to {many} {k} {g} {bytes} e w = subst (λ (n : ℕ). Fed-back n g bytes) e w
+pub feedback-to : {many k : ℕ} {g bytes : List ℕ} → many ≡ k → Feedback-of many g bytes → Feedback-of k g bytes
+feedback-to {many} {k} {g} {bytes} e w = subst (λ (n : ℕ). Feedback-of n g bytes) e w
 
 -- what is fed back is bytes
-pub feedback-bytes : (many : ℕ) (g bytes : List ℕ) → Fed-back many g bytes → Feedback many bytes
+pub feedback-bytes : (many : ℕ) (g bytes : List ℕ) → Feedback-of many g bytes → Feedback many bytes
 feedback-bytes many g bytes w = record { long = w .long; fits = λ j. go j (decLt j many); behind = w .behind }
   where
     go : (j : ℕ) → Dec (j < many) → getD bytes j 0 < 256

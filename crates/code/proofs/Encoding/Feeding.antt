@@ -6,12 +6,12 @@ use mathlib.Core.Logic.{inl, inr}
 use Prim.Native.Nat.{ℕ, _+_, _*_, _-_, _≤_, _<_}
 use native.Mathlib.Omega.{arith}
 use native.Mathlib.Decide.{decLt}
-use lib.ListN.{length, getD}
+use lib.ListN.{getD}
 use Rattle.arrays.specs.Array.{Written}
 use Rattle.field.specs.Field.{plus, times}
 use Rattle.lanes.specs.Lanes.{row-width, in-row}
 use Rattle.code.specs.Size.{feedback-rows, window-room}
-use Rattle.code.specs.Steps.Windows.{One-or-all, in-window, Fed}
+use Rattle.code.specs.Steps.Windows.{One-or-all, Rows-added, in-window, Fed}
 
 -- one row, or all
 pub some-row : (rows : ℕ) → One-or-all rows → 1 ≤ rows
@@ -26,10 +26,7 @@ pub all-rows : (rows : ℕ) → One-or-all rows → (rows ≡ 1 → ⊥) → row
 all-rows rows (inl e) n = absurd (n e)
 all-rows rows (inr e) n = e
 
--- so many rows of the feedback's multiples, added from a place on
-abbrev pub Rows-added : (at rows out : ℕ) → (feedback bytes now : List ℕ) → Type 0
-Rows-added at rows out feedback bytes now = Written at (row-width * rows) (λ j. plus (getD bytes (at + j) 0) (times (getD feedback j 0) out)) bytes now
-
+-- row after row
 pub rows-none : (at out : ℕ) (feedback bytes : List ℕ) → Rows-added at 0 out feedback bytes bytes
 rows-none at out feedback bytes = record { long = refl; new = λ j h. absurd (omega arith); before = λ i h. refl; after = λ i h. refl }
 

@@ -1,25 +1,25 @@
 -- The registers of all planes in their windows. What a plane has left is its window with the columns to come added: with no column taken in
 -- the windows are zeros, and that is the columns; and a step on the window is a step of the division on it, since the byte that comes in is
 -- the column's that stands there. Assumes nothing.
-use mathlib.Core.Path.{_≡_, refl, sym, _∙_, ap, ap₂, subst}
+use mathlib.Core.Path.{_≡_, sym, _∙_, ap, ap₂, subst}
 use mathlib.Core.Bool.{true}
-use mathlib.Core.List.{List, [], _∷_, _++_, reverse, reverse-cons}
+use mathlib.Core.List.{List, [], reverse}
 use Prim.Native.Nat.{ℕ, suc, _+_, _*_, _-_, _≤_, _<_}
 use native.Mathlib.Omega.{arith}
 use native.Mathlib.Decide.{decLt}
-use lib.ListN.{length, getD, take, drop, length-drop, length-reverse, List·getD-append, List·getD-eq-default}
-use lib.Seq.{length-take-le, getD-take, getD-append-add}
+use lib.ListN.{length, getD, take, drop, length-drop, length-reverse, List·getD-eq-default}
+use lib.Seq.{length-take-le, getD-take}
 use Rattle.arrays.specs.Array.{all-zero}
-use Rattle.arrays.proofs.Bytes.{Bytes, byte-at, bytes-every, bytes-take, bytes-drop, bytes-reverse}
+use Rattle.arrays.proofs.Bytes.{Bytes, byte-at, bytes-every, bytes-take, bytes-drop, bytes-reverse, getD-reverse}
 use Rattle.arrays.proofs.Part.{part-lent}
 use Rattle.arrays.proofs.Zeros.{zero-at}
 use Rattle.field.specs.Field.{plus, times, power}
-use Rattle.field.proofs.Xor.{plus-comm, plus-assoc, plus-lt, plus-zero, zero-plus}
+use Rattle.field.proofs.Xor.{plus-comm, plus-assoc, plus-zero, zero-plus}
 use Rattle.field.proofs.Times.{zero-times, one-times}
 use Rattle.field.proofs.Power.{power-zero}
 use Rattle.field.proofs.Logarithm.{times-comm}
 use Rattle.lanes.specs.Lanes.{row-width}
-use Rattle.code.specs.Size.{value-room, feedback-rows, window-room, windows-room}
+use Rattle.code.specs.Size.{value-room, window-room, windows-room}
 use Rattle.code.specs.Polynomial.{eval, added}
 use Rattle.code.specs.Vector.{plane, cut}
 use Rattle.code.specs.Steps.Windows.{in-window, window, taken-in, Fed, Divided}
@@ -46,18 +46,6 @@ module _ (n size p : ℕ) (vector : List ℕ) where
 
   pub coming-bytes : n * size ≤ length vector → Bytes vector → Bytes (taken-in n size p vector)
   coming-bytes whole byte = bytes-reverse (plane p (cut n size vector)) (plane-bytes p size (cut n size vector) (cut-values n size vector whole byte))
-
-pub getD-reverse : (l : List ℕ) (i : ℕ) → i < length l → getD (reverse l) i 0 ≡ getD l (length l - 1 - i) 0
-getD-reverse [] i h = absurd (omega arith)
-getD-reverse (x ∷ l) i h = rw (reverse-cons x l) (go (decLt i (length l)) (getD-reverse l i))
-  where
-    go : Dec (i < length l) → (i < length l → getD (reverse l) i 0 ≡ getD l (length l - 1 - i) 0) → getD (reverse l ++ (x ∷ [])) i 0 ≡ getD (x ∷ l) (length (x ∷ l) - 1 - i) 0
-    go (yes a) f =
-        List·getD-append (reverse l) (x ∷ []) 0 i (omega (arith, length-reverse l)) ∙ f a
-        ∙ ap (λ (k : ℕ). getD (x ∷ l) k 0) (let e : suc (length l - 1 - i) ≡ length (x ∷ l) - 1 - i = omega arith in e)
-    go (no a) f =
-        ap (λ (k : ℕ). getD (reverse l ++ (x ∷ [])) k 0) (let e : i ≡ length (reverse l) + 0 = omega (arith, length-reverse l) in e)
-        ∙ getD-append-add (reverse l) (x ∷ []) 0 0 ∙ ap (λ (k : ℕ). getD (x ∷ l) k 0) (let e : 0 ≡ length (x ∷ l) - 1 - i = omega arith in e)
 
 -- the column that comes next
 pub comes-next :

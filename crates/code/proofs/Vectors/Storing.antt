@@ -1,10 +1,10 @@
 -- Values stored one after the other: what was stored before stays, and what is not reached yet is as it was. Assumes nothing.
 use mathlib.Core.Path.{_≡_, refl, _∙_, subst}
 use mathlib.Core.List.{List}
-use Prim.Native.Nat.{ℕ, _+_, _*_, _-_, _≤_, _<_}
+use Prim.Native.Nat.{ℕ, _+_, _*_, _-_, _<_}
 use native.Mathlib.Omega.{arith}
 use native.Mathlib.Decide.{decLt}
-use lib.ListN.{length, getD}
+use lib.ListN.{getD}
 use Rattle.arrays.specs.Array.{Written}
 use Rattle.code.specs.Steps.Windows.{in-window, Stored}
 use Rattle.code.proofs.Vectors.Cut.{value-fits, next-value}

@@ -5,6 +5,7 @@ use mathlib.Core.List.{List, reverse}
 use mathlib.Core.Logic.{_⊎_}
 use Prim.Native.Nat.{ℕ, _+_, _*_, _-_, _≤_, _<_}
 use lib.ListN.{length, getD, take, drop}
+use Rattle.arrays.specs.Array.{Written}
 use Rattle.field.specs.Field.{plus, times, inverse, power}
 use Rattle.lanes.specs.Lanes.{row-width}
 use Rattle.code.specs.Size.{feedback-rows, feedback-room, window-room, windows-room}
@@ -18,7 +19,7 @@ pub record Feedback (many : ℕ) (bytes : List ℕ) : Type 0 where
   pub behind : (j : ℕ) → many ≤ j → getD bytes j 0 ≡ 0
 
 -- a generator over its lowest coefficient, without that one; zeros stand behind it
-pub record Fed-back (many : ℕ) (generator bytes : List ℕ) : Type 0 where
+pub record Feedback-of (many : ℕ) (generator bytes : List ℕ) : Type 0 where
   pub long : length bytes ≡ feedback-room
   pub each : (j : ℕ) → j < many → getD bytes j 0 ≡ times (getD generator (j + 1) 0) (inverse (getD generator 0 0))
   pub behind : (j : ℕ) → many ≤ j → getD bytes j 0 ≡ 0
@@ -31,6 +32,11 @@ One-or-all rows = (rows ≡ 1) ⊎ (rows ≡ feedback-rows)
 pub record Enough-rows (count rows : ℕ) : Type 0 where
   pub choice : One-or-all rows
   pub enough : count ≤ row-width * rows
+
+-- so many rows of the feedback's multiples of one byte added from a place on, and every other byte kept
+abbrev pub Rows-added : (at rows out : ℕ) → (feedback bytes bytes-now : List ℕ) → Type 0
+Rows-added at rows out feedback bytes bytes-now =
+    Written at (row-width * rows) (λ j. plus (getD bytes (at + j) 0) (times (getD feedback j 0) out)) bytes bytes-now
 
 -- where byte i of plane p's window stands
 abbrev pub in-window : (p i : ℕ) → ℕ
@@ -56,8 +62,8 @@ pub record Fed (planes rows s : ℕ) (feedback value bytes bytes-now : List ℕ)
 abbrev pub taken-in : (n size p : ℕ) → (vector : List ℕ) → List ℕ
 taken-in n size p vector = reverse (plane p (cut n size vector))
 
--- so many columns taken out by a feedback: where r times the feedback's value at r is 1, what a window and the columns to come have left,
--- its value times a power of r, is what the value of all columns was
+-- so many columns taken in by the registers: where r times the feedback's value at r is 1, the value at r of what is left, a window with the
+-- columns to come added, times r to the power of those taken in, is the value at r of all columns
 pub record Divided (steps n size many : ℕ) (feedback vector bytes : List ℕ) : Type 0 where
   pub long : length bytes ≡ windows-room
   pub bytes-in : (i : ℕ) → getD bytes i 0 < 256

@@ -1,20 +1,18 @@
 -- The polynomials of all planes at one place, in a row: the first row of coefficients is their first terms, and one more row times the
--- place's next power adds the next term of each. The tables of the rows of coefficients stand one after the other. Assumes nothing.
-use mathlib.Core.Path.{_≡_, refl, sym, _∙_, ap, ap₂, subst}
+-- place's next power adds the next term of each. Assumes nothing.
+use mathlib.Core.Path.{_≡_, refl, sym, _∙_, ap, ap₂}
 use mathlib.Core.List.{List, [], _∷_}
-use Prim.Native.Nat.{ℕ, suc, _+_, _*_, _≤_, _<_}
+use Prim.Native.Nat.{ℕ, suc, _+_, _<_}
 use native.Mathlib.Omega.{arith}
-use native.Mathlib.Decide.{decLt}
 use native.Mathlib.Numerals.{add-one}
-use lib.ListN.{length, getD}
+use lib.ListN.{getD}
 use Rattle.arrays.specs.Array.{Written}
-use Rattle.field.specs.Field.{plus, doubled, times, power}
+use Rattle.field.specs.Field.{plus, times, power}
 use Rattle.field.proofs.Power.{power-lt}
 use Rattle.field.proofs.Logarithm.{times-comm}
-use Rattle.lanes.specs.Lanes.{row-width, table-room, in-row, lane, Tables, Tables-put}
+use Rattle.lanes.specs.Lanes.{row-width, in-row, lane}
 use Rattle.code.specs.Polynomial.{eval}
 use Rattle.code.proofs.Polynomials.Arithmetic.{eval-append, eval-single}
-use Rattle.sums.specs.Places.{Coefficient-tables}
 use Rattle.lanes.proofs.Lane.{lane-length, lane-more}
 
 -- one more row of coefficients

@@ -1,11 +1,11 @@
 -- `divide` meets its contract: each turn takes in one more column. Assumes nothing.
 use mathlib.Core.Path.{_≡_, refl, sym, _∙_}
-use Prim.Native.Nat.{ℕ, _+_, _*_, _-_, _≤_, _<_}
+use Prim.Native.Nat.{_+_, _*_, _-_, _≤_}
 use native.Mathlib.Omega.{arith}
-use lib.ListN.{length, take}
+use lib.ListN.{take}
 use Rattle.arrays.proofs.Bytes.{bytes-every}
 use Rattle.arrays.proofs.Part.{part-lent, part-long}
-use Rattle.code.specs.Size.{most-columns, value-room, vector-room}
+use Rattle.code.specs.Size.{vector-room}
 use Rattle.code.specs.Steps.Windows.{Divided}
 use Rattle.code.proofs.Vectors.Cut.{start-fits, end-fits, value-ends}
 use Rattle.code.proofs.ValidSettings.{values-fit}
@@ -55,7 +55,7 @@ add-end : tie.Need-add-end Inv-loop μ-loop
 add-end c = let a = start (chosen (tables-made (c .before))) .args in end-fits _ (a .n) (a .size) (omega arith) (omega (arith, room (c .before)))
 
 slice-aggregate-feed-value : tie.Need-slice-aggregate-feed-value Inv-loop μ-loop
-slice-aggregate-feed-value c = sym (tables-made (turn c) .put-row-tables .ensures .0)
+slice-aggregate-feed-value c = sym (tables-made (turn c) .put-row-tables .ensures .long)
 
 part-feed-value-start : tie.Need-part-feed-value-start Inv-loop μ-loop
 part-feed-value-start c = omega arith
@@ -73,7 +73,7 @@ feed-value-requires c κs =
     let s = start r in
     let most = few-rows (r .rows-for .result) (r .rows-for .ensures .choice) in
     let long = part-long ((s .args .n - 1 - l .loop .s) * s .args .size) (s .args .size) (s .args .vector .now) (value-ends _ _ _ _ (omega arith) (s .pre .1 .2)) in (
-      (r .rows-for .ensures .choice, omega (arith, tables-made l .put-row-tables .ensures .0)),
+      (r .rows-for .ensures .choice, omega (arith, tables-made l .put-row-tables .ensures .long)),
       (omega (arith, s .pre .1 .0), omega (arith, s .pre .1 .1), l .loop .inv .1 .long),
     )
 
@@ -95,7 +95,7 @@ loop-again c =
           (omega (arith, s .pre .0 .0, s .pre .1 .0)) (omega (arith, s .pre .1 .0)) (r .rows-for .ensures .enough) (omega (arith, s .pre .0 .0, feedback .long)) (feedback .fits)
           (feedback .behind) (omega (arith, s .pre .1 .2)) (bytes-every (a .vector .now) (λ i. r .before .shared-slice-known .given i .fits))
           (λ p h. part-lent at (at + a .size - at) (a .vector .now) p (omega arith) ∙ sym (comes-next (a .n) (a .size) (l .loop .s) p (a .vector .now) (omega arith) h)) (l .loop .inv .1)
-          (fed-to long (fed .feed-value .ensures .1 (a .feedback .now) (feedback .fits) (made .put-row-tables .ensures .1))) (fed .feed-value .ensures .0),
+          (fed-to long (fed .feed-value .ensures .1 (a .feedback .now) (feedback .fits) (made .put-row-tables .ensures .put))) (fed .feed-value .ensures .0),
     )
 
 returns : tie.Need-returns Inv-loop μ-loop

@@ -8,7 +8,8 @@ use borrow.Author.Needs.{needs}
 use Rattle.arrays.specs.Array.{Written}
 use Rattle.field.specs.Field.{plus, times}
 use Rattle.lanes.specs.Lanes.{row-width, in-row, Row-tables}
-use Rattle.code.proofs.Encoding.Feeding.{some-row, all-rows, Rows-added, rows-none, rows-more, rows-to}
+use Rattle.code.specs.Steps.Windows.{Rows-added}
+use Rattle.code.proofs.Encoding.Feeding.{some-row, all-rows, rows-none, rows-more, rows-to}
 use Rattle.code.proofs.division.feed.Statement.{statement}
 use Rattle.code.proofs.division.feed.Tie as tie
 

@@ -4,7 +4,6 @@ use mathlib.Core.List.{List}
 use Prim.Native.Nat.{ℕ, _-_, _≤_, _<_}
 use native.Mathlib.Omega.{arith}
 use lib.ListN.{length, getD}
-use borrow.Author.Needs.{needs}
 use Rattle.lanes.specs.Lanes.{Row-tables}
 use Rattle.code.specs.Steps.Windows.{Fed}
 use Rattle.code.proofs.Encoding.Feeding.{few-rows, fed-none, fed-more, fed-to}

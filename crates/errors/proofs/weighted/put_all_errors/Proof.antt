@@ -115,13 +115,13 @@ slice-aggregate-put-fractions : tie.Need-slice-aggregate-put-fractions
 slice-aggregate-put-fractions c = sym (both (upper-put (c .before .before)) .before .numerators .ensures .long)
 
 slice-aggregate-put-fractions-2 : tie.Need-slice-aggregate-put-fractions-2
-slice-aggregate-put-fractions-2 c = sym (upper-put (c .before .before .before) .put-row-tables .ensures .0)
+slice-aggregate-put-fractions-2 c = sym (upper-put (c .before .before .before) .put-row-tables .ensures .long)
 
 slice-aggregate-put-fractions-3 : tie.Need-slice-aggregate-put-fractions-3
 slice-aggregate-put-fractions-3 c = sym (both (upper-put (c .before .before .before .before)) .slopes .ensures .long)
 
 slice-aggregate-put-fractions-4 : tie.Need-slice-aggregate-put-fractions-4
-slice-aggregate-put-fractions-4 c = sym (c .before .before .before .before .before .put-row-tables2 .ensures .0)
+slice-aggregate-put-fractions-4 c = sym (c .before .before .before .before .before .put-row-tables2 .ensures .long)
 
 put-fractions-requires : tie.Need-put-fractions-requires
 put-fractions-requires c κs =
@@ -133,8 +133,8 @@ put-fractions-requires c κs =
     let bounds = s .pre .1 .0 in (
       (s .pre .0 .0, s .pre .0 .1, omega (arith, p .before .before .if1 .left), omega (arith, few l, bounds)),
       (
-        (p .before .numerators .ensures .long, upper .put-row-tables .ensures .1),
-        ((p .slopes .ensures .long, lower .put-row-tables2 .ensures .1), (bounds .0, bounds .1, bounds .2, s .pre .0 .2)),
+        (p .before .numerators .ensures .long, upper .put-row-tables .ensures .put),
+        ((p .slopes .ensures .long, lower .put-row-tables2 .ensures .put), (bounds .0, bounds .1, bounds .2, s .pre .0 .2)),
       ),
     )
 

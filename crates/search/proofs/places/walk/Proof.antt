@@ -40,20 +40,20 @@ tried-by c tables put =
     ((omega arith, omega arith, put), (s .pre .1, same-values _ _ _ _ (s .pre .1) (c .longest .ensures)))
 
 slice-aggregate-try-places : tie.Need-slice-aggregate-try-places
-slice-aggregate-try-places c = sym (c .before .before .put-row-tables .ensures .0)
+slice-aggregate-try-places c = sym (c .before .before .put-row-tables .ensures .long)
 
 try-places-requires : tie.Need-try-places-requires
-try-places-requires c κs = let put = c .before .before in let most = put .before .before .before in (start most .pre .0, tried-by most _ (put .put-row-tables .ensures .1))
+try-places-requires c κs = let put = c .before .before in let most = put .before .before .before in (start most .pre .0, tried-by most _ (put .put-row-tables .ensures .put))
 
 put-row-tables-requires-2 : tie.Need-put-row-tables-requires-2
 put-row-tables-requires-2 c κs = let few = most-few (c .before .before) in (omega arith, omega arith, omega arith)
 
 slice-aggregate-try-places-2 : tie.Need-slice-aggregate-try-places-2
-slice-aggregate-try-places-2 c = sym (c .before .before .put-row-tables2 .ensures .0)
+slice-aggregate-try-places-2 c = sym (c .before .before .put-row-tables2 .ensures .long)
 
 try-places-requires-2 : tie.Need-try-places-requires-2
 try-places-requires-2 c κs =
-    let put = c .before .before in let most = put .before .before .before in (start most .pre .0, tried-by most _ (put .put-row-tables2 .ensures .1))
+    let put = c .before .before in let most = put .before .before .before in (start most .pre .0, tried-by most _ (put .put-row-tables2 .ensures .put))
 
 pub walk-spec : {M : Type 1} → statement M
 walk-spec =

@@ -1,5 +1,5 @@
 -- `syndromes` meets its contract: each turn goes one power of the roots down and adds the terms of one more check. Assumes nothing.
-use mathlib.Core.Path.{_≡_, refl, sym, subst}
+use mathlib.Core.Path.{_≡_, refl, sym, _∙_, subst}
 use mathlib.Core.List.{List}
 use Prim.Native.Nat.{ℕ, _+_, _-_, _≤_, _<_}
 use native.Mathlib.Omega.{arith}
@@ -10,6 +10,8 @@ use Rattle.code.specs.Size.{most-checks}
 use Rattle.code.specs.Polynomial.{root}
 use Rattle.sums.specs.Rows.{Root-exponents, Check-sums}
 use Rattle.lanes.proofs.Lane.{row-length, row-at}
+use Rattle.arrays.proofs.Written.{written-filled}
+use Rattle.sums.proofs.Sums.Exponents.{exponents-below}
 use Rattle.sums.proofs.Sums.Terms.{filled-prefix, terms-of-products}
 use Rattle.sums.proofs.Sums.CheckSums.{check-sums-none, check-sums-more, check-sums-whole}
 use Rattle.sums.proofs.rows.syndromes.Statement.{statement}
@@ -37,7 +39,7 @@ exponents-of {many = many} {bytes = bytes} q r = subst (λ (k : ℕ). Root-expon
 
 -- the exponents of a turn, and the constants that they make
 lowered : (c : tie.After-lower Inv-loop μ-loop) → Root-exponents (start (turn c) .args .count) (start (turn c) .args .count - (turn c .loop .c + 1)) (c .lower .last .1 .0)
-lowered c = c .lower .ensures _ _ (start (turn c) .pre .2) (exponents-of (omega arith) (turn c .loop .inv .1))
+lowered c = exponents-below _ _ _ _ (start (turn c) .pre .2) (c .lower .ensures) (exponents-of (omega arith) (turn c .loop .inv .1))
 
 abbrev lowering : tie.After-put-root-powers Inv-loop μ-loop → tie.After-lower Inv-loop μ-loop
 lowering c = c .before .before .before
@@ -45,7 +47,9 @@ lowering c = c .before .before .before
 constants :
     (c : tie.After-put-root-powers Inv-loop μ-loop) → let l = turn (lowering c) in let count = start l .args .count in
     Filled count count (λ i. power (root i) (count - (l .loop .c + 1))) (take count (c .put-root-powers .last .1 .1 .1 .0))
-constants c = filled-prefix _ _ _ (start (turn (lowering c)) .pre .2) (lowered (lowering c) .same) (c .put-root-powers .ensures)
+constants c =
+    let l = turn (lowering c) in
+    filled-prefix _ _ _ (rw (l .loop .inv .2) (start l .pre .2)) (lowered (lowering c) .same) (written-filled (c .put-root-powers .ensures))
 
 root-logarithms-requires : tie.Need-root-logarithms-requires Inv-loop μ-loop
 root-logarithms-requires c κs = c .before .pre .1
@@ -65,7 +69,10 @@ put-root-powers-requires c κs =
     (start l .pre .0, start l .pre .2, lowered (c .before .before) .exponents, l .loop .inv .2)
 
 array-share-prefix-constants : tie.Need-array-share-prefix-constants Inv-loop μ-loop
-array-share-prefix-constants c = omega (arith, c .before .put-root-powers .ensures .long)
+array-share-prefix-constants c =
+    let put = c .before in
+    let l = turn (lowering put) in
+    omega (arith, put .put-root-powers .ensures .long, l .loop .inv .2, start l .pre .2)
 
 slice-aggregate-add-row : tie.Need-slice-aggregate-add-row Inv-loop μ-loop
 slice-aggregate-add-row c = sym (constants (c .before .before) .long)
@@ -87,7 +94,7 @@ loop-again c =
     let d = start l .args .difference .now in (
       omega (arith, more (lowering raised)),
       lowered (lowering raised),
-      raised .put-root-powers .ensures .long,
+      raised .put-root-powers .ensures .long ∙ l .loop .inv .2,
       check-sums-more (l .loop .c) _ _ d _ _ _ (omega arith) (l .loop .inv .3) (row-at d (l .loop .c)) (terms-of-products _ _ _ _ _ _ (constants raised) (added .add-row .ensures)),
     )
 

@@ -6,8 +6,8 @@ use lib.ListN.{getD}
 use Rattle.arrays.specs.Array.{Written}
 use Rattle.arrays.proofs.Written.{written-none, written-more, written-to}
 use Rattle.code.specs.Steps.Windows.{in-window}
-use Rattle.code.proofs.planes.put_value.Statement.{statement}
-use Rattle.code.proofs.planes.put_value.Tie as tie
+use Rattle.code.proofs.storing.put_value.Statement.{statement}
+use Rattle.code.proofs.storing.put_value.Tie as tie
 
 abbrev Inv-loop : tie.InvT-loop
 Inv-loop windows i size output₀ at p₀ output p = (p ≤ size) × Written at p (λ q. getD windows (in-window q i) 0) output₀ output

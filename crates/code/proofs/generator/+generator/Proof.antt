@@ -4,12 +4,12 @@ use Rattle.code.proofs.Encoding.Factors.{generator-none, fewer-above, g
 use Prim.Native.Nat.{ℕ, _-_, _<_}
 use borrow.Fn.Kinds.{In}
 use borrow.Fn.PlainCycle.{Measures, is, falls, and}
-use Rattle.code.proofs.register.generator.Reads as generator
-use Rattle.code.proofs.register.generator.Kinds as generator-kinds
-use Rattle.code.proofs.register.+generator.Lts-generator as generator-lts
-use Rattle.code.proofs.register.times_factor.Reads as times-factor-reads
-use Rattle.code.proofs.register.+generator.{statement}
-use Rattle.code.proofs.register.+generator.Tie.{close}
+use Rattle.code.proofs.generator.generator.Reads as generator
+use Rattle.code.proofs.generator.generator.Kinds as generator-kinds
+use Rattle.code.proofs.generator.+generator.Lts-generator as generator-lts
+use Rattle.code.proofs.generator.times_factor.Reads as times-factor-reads
+use Rattle.code.proofs.generator.+generator.{statement}
+use Rattle.code.proofs.generator.+generator.Tie.{close}
 
 abbrev μ-generator : Measures 4 generator-kinds.ps ℕ
 μ-generator κs a = a .1 .1 .1 .0

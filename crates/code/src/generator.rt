@@ -8,7 +8,7 @@ ghost use Rattle.field.specs.Field.{plus, times};
 ghost use Rattle.field.specs.Table.{Powers, Logarithms};
 ghost use Rattle.code.specs.Size.{most-checks, generator-room};
 ghost use Rattle.code.specs.Polynomial.{Roots, generator as «generator-of»};
-ghost use Rattle.code.specs.Steps.Windows.{Fed-back};
+ghost use Rattle.code.specs.Steps.Windows.{Feedback-of};
 use crate::sizes::FEEDBACK_ROOM;
 use crate::sizes::GENERATOR_ROOM;
 use crate::sizes::MOST_CHECKS;
@@ -61,7 +61,7 @@ pub fn feedback(
     many: usize,
 ) -> [u8; FEEDBACK_ROOM]
     requires { ⌜ Powers (now powers) × Logarithms (now logarithms) × (many ≤ most-checks) ⌝ }
-    ensures { λ r. ⌜ Fed-back many (now (generator .entry)) r ⌝ }
+    ensures { λ r. ⌜ Feedback-of many (now (generator .entry)) r ⌝ }
 {
     let lowest = field::inverse_by(powers, logarithms, generator[0]);
     let mut rest = [0u8; FEEDBACK_ROOM];

@@ -5,8 +5,8 @@ use native.Mathlib.Omega.{arith}
 use Rattle.code.specs.Steps.Windows.{Stored}
 use Rattle.code.proofs.Vectors.Cut.{value-fits}
 use Rattle.code.proofs.Vectors.Storing.{stored-none, stored-more, stored-to}
-use Rattle.code.proofs.planes.store.Statement.{statement}
-use Rattle.code.proofs.planes.store.Tie as tie
+use Rattle.code.proofs.storing.store.Statement.{statement}
+use Rattle.code.proofs.storing.store.Tie as tie
 
 abbrev Inv-loop : tie.InvT-loop
 Inv-loop windows n count size output₀ c₀ output c = (c ≤ count) × Stored c n count size windows output₀ output

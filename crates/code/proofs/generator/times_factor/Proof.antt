@@ -6,8 +6,8 @@ use native.Mathlib.Omega.{arith}
 use borrow.Author.Needs.{needs}
 use Rattle.field.specs.Field.{plus}
 use Rattle.code.proofs.Encoding.Factors.{Factored, factored-none, factored-more, factored-whole}
-use Rattle.code.proofs.register.times_factor.Statement.{statement}
-use Rattle.code.proofs.register.times_factor.Tie as tie
+use Rattle.code.proofs.generator.times_factor.Statement.{statement}
+use Rattle.code.proofs.generator.times_factor.Tie as tie
 
 abbrev Inv-loop : tie.InvT-loop
 Inv-loop powers logarithms c polynomial₀ many i₀ polynomial i = (i ≤ many) × Factored c i polynomial₀ polynomial

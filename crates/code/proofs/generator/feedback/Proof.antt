@@ -4,13 +4,13 @@ use Prim.Native.Nat.{_-_, _≤_}
 use native.Mathlib.Omega.{arith}
 use borrow.Author.Needs.{needs}
 use Rattle.field.specs.Field.{times}
-use Rattle.code.specs.Steps.Windows.{Fed-back}
+use Rattle.code.specs.Steps.Windows.{Feedback-of}
 use Rattle.code.proofs.Encoding.Factors.{feedback-none, feedback-more, feedback-to}
-use Rattle.code.proofs.register.feedback.Statement.{statement}
-use Rattle.code.proofs.register.feedback.Tie as tie
+use Rattle.code.proofs.generator.feedback.Statement.{statement}
+use Rattle.code.proofs.generator.feedback.Tie as tie
 
 abbrev Inv-loop : tie.InvT-loop
-Inv-loop powers logarithms generator many lowest rest₀ j₀ rest j = (j ≤ many) × Fed-back j generator rest
+Inv-loop powers logarithms generator many lowest rest₀ j₀ rest j = (j ≤ many) × Feedback-of j generator rest
 
 abbrev μ-loop : tie.MeasureT-loop
 μ-loop powers logarithms generator many lowest rest₀ j₀ rest j = many - j
