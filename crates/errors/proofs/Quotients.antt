@@ -126,8 +126,8 @@ pub fraction-put :
 fraction-put size e twice at numerators slopes above-before above below-before below marks weighted q a b w =
     put-as value-room at _ _ marks weighted
     (λ p h.
-    ap₂ (λ (y z : ℕ). times y (inverse z)) (at-start p above ∙ a .new p h)
-    (at-start p below ∙ b .new p h ∙ ap (eval (lane p ((size + 1) / 2) slopes)) q))
+    ap₂ (λ (y z : ℕ). times y (inverse z)) (at-start p above ∙ a .new p (omega arith))
+    (at-start p below ∙ b .new p (omega arith) ∙ ap (eval (lane p ((size + 1) / 2) slopes)) q))
     w
   where
     at-start : (p : ℕ) (bs : List ℕ) → getD bs p 0 ≡ getD bs (0 + p) 0
