@@ -1,4 +1,6 @@
 // Compares the compiled product of two bytes with one that uses no table, over all 65,536 pairs, and prints how many agree.
+#![tactic(auto)]
+
 ghost use Rattle.std.specs.Prelude.{◌≤◌};
 
 use libc::STDOUT_FILENO;

@@ -1,4 +1,6 @@
 // Bytes copied, bytes gathered from rows, and the test for zeros.
+#![tactic(auto)]
+
 ghost use Rattle.std.specs.Prelude.{◌≡◌, ◌+◌, ◌*◌, ◌≤◌, ◌<◌, length, get_or};
 ghost use Rattle.arrays.specs.Array.{Written, all_zero};
 

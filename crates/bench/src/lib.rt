@@ -1,4 +1,6 @@
 // A whole group from one file: the good columns run by the calls of the column crate, the bad ones say what the file says.
+#![tactic(auto)]
+
 mod group;
 mod lines;
 mod printing;

@@ -1,4 +1,6 @@
 // The bench: a group's file from standard input, its listing to standard output.
+#![tactic(auto)]
+
 use bench::LISTING_ROOM;
 use bench_file::reading::LONGEST_FILE;
 use libc::{STDIN_FILENO, STDOUT_FILENO};

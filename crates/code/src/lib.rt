@@ -1,4 +1,6 @@
 // The Reed-Solomon code over byte planes: check values.
+#![tactic(auto)]
+
 mod division;
 mod generator;
 pub mod roots;

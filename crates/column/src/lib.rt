@@ -1,4 +1,6 @@
 // One column's part in the exchange: its record and the calls on it.
+#![tactic(auto)]
+
 mod holdings;
 mod sending;
 

@@ -1,4 +1,6 @@
 // Values counted over a table of rows: Y, values and confidences.
+#![tactic(auto)]
+
 pub mod filling;
 mod found;
 mod leaders;

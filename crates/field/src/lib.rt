@@ -1,6 +1,8 @@
 // The field of 256 elements: products and inverses by two constant tables.
 //
 // Every contract holds for all bytes. The functions whose names end in `_by` take the tables as a loan, for loops.
+#![tactic(auto)]
+
 pub mod long;
 mod tables;
 

@@ -3,6 +3,8 @@
 //
 // A value times a constant is two rows of its multiples, one for each half of the constant, so that a product in all planes is
 // two additions. Loops over the bytes of a row compile to one step on the whole row.
+#![tactic(auto)]
+
 ghost use Rattle.std.specs.Prelude.{◌≡◌, cond, ℕ, ◌+◌, ◌*◌, ◌≤◌, ◌<◌, eqb, length, get_or};
 ghost use Rattle.arrays.specs.Array.{Written};
 ghost use Rattle.field.specs.Field.{plus, doubled, times};

@@ -1,4 +1,6 @@
 // The level of a group of columns and a column's correction, from what the column ended with.
+#![tactic(auto)]
+
 pub mod answer;
 mod ends;
 mod heights;

@@ -1,4 +1,6 @@
 // Runs `level` on stored cases that another implementation worked out, and says how many agree: in the answer and in both numbers.
+#![tactic(auto)]
+
 use code::sizes::{MOST_COLUMNS, VALUE_ROOM, VECTOR_ROOM};
 use level::answer::Level;
 use libc::STDIN_FILENO;

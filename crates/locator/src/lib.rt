@@ -1,4 +1,6 @@
 // The decoder of one plane of a word: its locator, and the test for one error.
+#![tactic(auto)]
+
 pub mod berlekamp;
 pub mod plane;
 pub mod single;

@@ -1,4 +1,6 @@
 // A column's record: plain data, by value. Any bit pattern of it is a record, and each call checks it again.
+#![tactic(auto)]
+
 pub mod frames;
 pub mod refusals;
 pub mod slots;

@@ -1,4 +1,6 @@
 // Repair of a vector by check values: in each byte plane the one codeword within t places, or none.
+#![tactic(auto)]
+
 pub mod again;
 mod changed;
 mod columns;

@@ -1,5 +1,7 @@
 // Runs `repair` on the stored vectors that another coder made, and says how many agree: in the answer and in every byte of
 // the lent output.
+#![tactic(auto)]
+
 use vector_file::Tally;
 
 fn step(tally: Tally) -> Tally {

@@ -1,5 +1,7 @@
 // The calls for programs in C and Rust, in one archive under names of one prefix. Records pass by value as C passes structs, a slice
 // passes as pointer and length.
+#![tactic(auto)]
+
 ghost use Rattle.code.specs.Entry.{ChecksSays};
 ghost use Rattle.repair.specs.Entry.{RepairSays};
 ghost use Rattle.column.specs.Entry.{OpenSays, TakeSays, FrameSizeSays, SendSays, CloseSays, ResultSays};

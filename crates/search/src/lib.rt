@@ -1,4 +1,6 @@
 // The search of all planes for their wrong places: what is looked for in each, and the walk through the places in order.
+#![tactic(auto)]
+
 mod locators;
 mod places;
 

@@ -1,5 +1,7 @@
 // Runs the starred cases in compiled code and prints what comes out, which is held to the stored lines. All but one: no call hands out a
 // generator, so that its case is one of the definitions alone.
+#![tactic(auto)]
+
 use libc::STDOUT_FILENO;
 use repair::RepairAnswer;
 

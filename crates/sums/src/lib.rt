@@ -1,3 +1,5 @@
 // Sums over rows of byte planes, and the values of their polynomials at a place.
+#![tactic(auto)]
+
 pub mod places;
 pub mod rows;

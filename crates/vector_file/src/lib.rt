@@ -1,5 +1,7 @@
 // Stored vectors of the code calls, read from standard input: what a call is given, and what it must answer and leave in
 // the output lent to it. models/vectors/make.c says how a record is laid out.
+#![tactic(auto)]
+
 ghost use Rattle.std.specs.Prelude.{◌≡◌, ◌≤◌};
 ghost use Rattle.io.specs.Counts.{IsPrefixLen};
 
