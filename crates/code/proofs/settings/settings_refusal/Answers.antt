@@ -3,33 +3,32 @@ use Prim.Native.Nat.{◌+◌, ◌*◌}
 use native.Mathlib.Omega.{arith}
 use borrow.Author.Tests.{le-leb, lt-leb, lt-ltb, le-ltb}
 use Rattle.code.specs.Settings.{settings, settings_refusal}
-use Rattle.code.proofs.settings.settings_refusal.Statement.{statement}
-use Rattle.code.proofs.settings.settings_refusal.Tie as tie
+use Rattle.code.proofs.settings.settings_refusal.Goals as goal
 
-returns : tie.Need-returns
+pub returns-then-n-lt1 : goal.returns-then-n-lt1
 unfolding settings_refusal settings
-returns c = simp (lt-leb 1 _ c.if1.true)
+returns-then-n-lt1 c = simp (lt-leb 1 _ c.if-n-lt1.true)
 
-returns-2 : tie.Need-returns-2
+pub returns-then-n-gt32 : goal.returns-then-n-gt32
 unfolding settings_refusal settings
-returns-2 c = let a = c.before.before.args in simp (le-leb 1 a.n (omega arith), lt-leb _ 32 c.if2.true)
+returns-then-n-gt32 c = let a = c.args in simp (le-leb 1 a.n (omega arith), lt-leb _ 32 c.if-n-gt32.true)
 
-returns-3 : tie.Need-returns-3
+pub returns-then-n-t : goal.returns-then-n-t
 unfolding settings_refusal settings
-returns-3 c =
-    let a = c.before.before.before.args in
+returns-then-n-t c =
+    let a = c.args in
     simp (le-leb 1 a.n (omega arith), le-leb a.n 32 (omega arith), lt-ltb a.n (3 * a.t + 1) (omega arith))
 
-returns-4 : tie.Need-returns-4
+pub returns-then-w-lt1 : goal.returns-then-w-lt1
 unfolding settings_refusal settings
-returns-4 c =
-    let a = c.before.before.before.before.args in
+returns-then-w-lt1 c =
+    let a = c.args in
     simp (le-leb 1 a.n (omega arith), le-leb a.n 32 (omega arith), le-ltb a.n (3 * a.t + 1) (omega arith), lt-leb 1 a.w (omega arith))
 
-returns-5 : tie.Need-returns-5
+pub returns-then-w-gt8 : goal.returns-then-w-gt8
 unfolding settings_refusal settings
-returns-5 c =
-    let a = c.before.before.before.before.before.args in
+returns-then-w-gt8 c =
+    let a = c.args in
     simp (
       le-leb 1 a.n (omega arith),
       le-leb a.n 32 (omega arith),
@@ -38,10 +37,10 @@ returns-5 c =
       lt-leb a.w 8 (omega arith),
     )
 
-returns-6 : tie.Need-returns-6
+pub returns : goal.returns
 unfolding settings_refusal settings
-returns-6 c =
-    let a = c.before.before.before.before.before.args in
+returns c =
+    let a = c.args in
     simp (
       le-leb 1 a.n (omega arith),
       le-leb a.n 32 (omega arith),
@@ -49,6 +48,3 @@ returns-6 c =
       le-leb 1 a.w (omega arith),
       le-leb a.w 8 (omega arith),
     )
-
-pub settings_refusal_spec : {M : Type 1} → statement M
-settings_refusal_spec = tie.close (tie.spec returns returns-2 returns-3 returns-4 returns-5 returns-6)

@@ -3,12 +3,8 @@ use mathlib.Core.Path.{refl}
 use Rattle.field.specs.Field.{doubled, plus, xor_from}
 use Rattle.field.proofs.Power.{doublings}
 use Rattle.code.proofs.Polynomials.Generator.{roots_tested}
-use Rattle.code.proofs.roots.roots.Statement.{statement}
-use Rattle.code.proofs.roots.roots.Tie as tie
+use Rattle.code.proofs.roots.roots.Goals as goal
 
-returns : tie.Need-returns
+pub returns : goal.returns
 unfolding doublings doubled plus xor_from
 returns c = roots_tested _ refl tt
-
-pub roots_spec : {M : Type 1} → statement M
-roots_spec = tie.close (tie.spec returns)
