@@ -4,13 +4,12 @@ use mathlib.Core.Path.{refl, sym}
 use Prim.Native.Nat.{◌+◌, ◌-◌}
 use native.Mathlib.Omega.{arith}
 use Rattle.sums.proofs.AtPlace.Powers.{power_around}
-use Rattle.sums.proofs.places.step_on.Statement.{statement}
-use Rattle.sums.proofs.places.step_on.Tie as tie
+use Rattle.sums.proofs.places.step_on.Goals as goal
 
-returns-2 : tie.Need-returns-2
-returns-2 c =
-    let a = c.before.args in
+pub returns : goal.returns
+returns c =
+    let a = c.args in
     (omega arith, sym (power_around (a.exponent - (255 - a.step)) 1 (a.exponent + a.step) (omega arith)))
 
-pub step_on_spec : {M : Type 1} → statement M
-step_on_spec = tie.close (tie.spec (λ c. omega arith) (λ c. omega arith) (λ c. (omega arith, refl)) returns-2)
+pub returns-then-exponent-back : goal.returns-then-exponent-back
+returns-then-exponent-back c = (omega arith, refl)

@@ -1,0 +1,10 @@
+-- `step_back_byte` meets its contract: the powers of 2 repeat after 255. Assumes nothing.
+use native.Mathlib.Omega.{arith}
+use Rattle.sums.proofs.AtPlace.Powers.{power_around}
+use Rattle.sums.proofs.rows.step_back_byte.Goals as goal
+
+pub returns-then-exponent-step : goal.returns-then-exponent-step
+returns-then-exponent-step c = (λ h. omega arith, power_around c.args.exponent 1 _ (omega arith))
+
+pub returns : goal.returns
+returns c = (λ h. omega arith, power_around c.args.exponent 0 _ (omega arith))
