@@ -59,7 +59,7 @@ fn opened(file: &[u8], places: Places) -> [Column; MOST_COLUMNS]
 }
 
 // A frame, from the array's front on.
-#[derive(Drop)]
+#[derive(Clone, Copy)]
 pub struct Frame {
     pub bytes: [u8; LONGEST_FRAME],
 }

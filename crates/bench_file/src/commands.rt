@@ -22,7 +22,7 @@ fn byte_at(file: &[u8], at: usize) -> u32
 }
 
 // The bytes with which a command begins: its own, and the three behind it; 0 past the end.
-#[derive(Drop)]
+#[derive(Clone, Copy)]
 pub struct Head {
     pub command: u32,
     pub first: u32,
@@ -177,7 +177,7 @@ fn message_refusal(places: Places, round: u32, from: u32, to: u32) -> u32
 }
 
 // The round and the columns of a message.
-#[derive(Drop)]
+#[derive(Clone, Copy)]
 pub struct Heading {
     pub round: u32,
     pub from: u32,
@@ -291,7 +291,7 @@ pub enum Turn {
 }
 
 // One command read: where to go on, and the places after it.
-#[derive(Drop)]
+#[derive(Clone, Copy)]
 pub struct Step {
     pub turn: Turn,
     pub places: Places,

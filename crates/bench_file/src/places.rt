@@ -16,7 +16,7 @@ const MOST_MESSAGES: usize = 3 * MOST_COLUMNS * MOST_COLUMNS;
 
 // The settings, the place of each column's own value, and of each message by round, sender and reader; 0, where the group command
 // stands, says that there is none. Whether there is a message yet.
-#[derive(Drop)]
+#[derive(Clone, Copy)]
 pub struct Places {
     pub n: u32,
     pub t: u32,

@@ -9,7 +9,7 @@ use crate::commands;
 use crate::commands::Step;
 use crate::places::Places;
 
-#[derive(Drop)]
+#[derive(Clone, Copy)]
 pub struct Reader<'a> {
     pub file: &'a [u8],
     pub at: usize,

@@ -14,7 +14,7 @@ use crate::{commands, places, reader};
 pub const LONGEST_FILE: usize = 65536;
 
 // What a file comes to: the number by which it is turned down, or 0 and the places of all that it says.
-#[derive(Drop)]
+#[derive(Clone, Copy)]
 pub struct Parsed {
     pub answer: u32,
     pub places: Places,

@@ -38,7 +38,7 @@ fn live_after(n: usize, least: usize, count: u8) -> u8
 }
 
 // What is kept of a column: the row of the value that leads it, how often that is found, and 1 while it is live, 0 once it is settled.
-#[derive(Drop)]
+#[derive(Clone, Copy)]
 pub struct Standing {
     pub row: u8,
     pub times: u8,
@@ -113,7 +113,7 @@ fn weigh_row(
 }
 
 // The rows of the values that lead the columns, and how often these are found.
-#[derive(Drop)]
+#[derive(Clone, Copy)]
 pub struct Leaders {
     pub rows: [u8; MOST_COLUMNS],
     pub times: [u8; MOST_COLUMNS],

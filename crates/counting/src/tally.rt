@@ -61,7 +61,7 @@ fn confidence(t: u8, times: u8) -> u8
 }
 
 // The values and confidences of all columns.
-#[derive(Drop)]
+#[derive(Clone, Copy)]
 pub struct Ratings {
     pub values: [u8; VECTOR_ROOM],
     pub confidences: [u8; MOST_COLUMNS],

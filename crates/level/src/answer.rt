@@ -3,7 +3,7 @@ ghost use Rattle.std.specs.Prelude.{◌≡◌, pos};
 
 // 0 or the number of the refusal, the level of the group and the column's correction, in tenths of a millimetre.
 #[repr(C)]
-#[derive(Drop)]
+#[derive(Clone, Copy)]
 pub struct Level {
     pub answer: u32,
     pub level: i64,

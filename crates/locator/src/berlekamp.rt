@@ -24,7 +24,7 @@ const TOP: usize = PLANE_ROOM - 1;
 
 // How far a plane has come: the size of its locator, where in its array the last one before it grew starts, and the exponent of the factor
 // that scales that one to discrepancy 1.
-#[derive(Drop)]
+#[derive(Clone, Copy)]
 pub struct Reached {
     pub size: usize,
     pub from: usize,
@@ -32,7 +32,7 @@ pub struct Reached {
 }
 
 // The locators, and their sizes.
-#[derive(Drop)]
+#[derive(Clone, Copy)]
 pub struct Locators {
     pub locators: [u8; PLANES_ROOM],
     pub sizes: [usize; VALUE_ROOM],

@@ -19,7 +19,7 @@ pub const LONGEST_FRAME: usize = HEADER + CHECKS_ROOM;
 
 // Who a column is: the settings n, t, w, its number, the run number, and its own value in front of its array.
 #[repr(C)]
-#[derive(Drop)]
+#[derive(Clone, Copy)]
 pub struct Identity {
     pub n: u32,
     pub t: u32,
@@ -34,7 +34,7 @@ const COUNT_TOP: u32 = 4294967295;
 
 // What came in from one sender for a round: whether its frame was taken, which any number but 0 says, and the frame.
 #[repr(C)]
-#[derive(Drop)]
+#[derive(Clone, Copy)]
 pub struct Slot {
     pub taken: u8,
     pub bytes: [u8; LONGEST_FRAME],
@@ -48,7 +48,7 @@ pub const TOLD_NONE: u8 = 255;
 // What a column has found: V after round one, Y after two, values and confidences after three. Values stand one after the other, w
 // bytes each, from their array's front on. And what rounds two and three told of each sender, when they are closed.
 #[repr(C)]
-#[derive(Drop)]
+#[derive(Clone, Copy)]
 pub struct Findings {
     pub heard: [u8; VECTOR_ROOM],
     pub agreed: [u8; VECTOR_ROOM],
@@ -61,7 +61,7 @@ pub struct Findings {
 // A record: who the column is, what came in by slot, for its round and early for the one that follows, what it has found, its round, 1
 // to 4, and how many frames it has refused, by the slot that they came in.
 #[repr(C)]
-#[derive(Drop)]
+#[derive(Clone, Copy)]
 pub struct Column {
     pub who: Identity,
     pub slots: [Slot; MOST_COLUMNS],
@@ -73,7 +73,7 @@ pub struct Column {
 
 // What a call that changes the record answers: 0 or the number of the refusal, and the record.
 #[repr(C)]
-#[derive(Drop)]
+#[derive(Clone, Copy)]
 pub struct Outcome {
     pub answer: u32,
     pub column: Column,
@@ -82,7 +82,7 @@ pub struct Outcome {
 // What asking for the result answers: 0 or the number of the refusal, the values and confidences, and what rounds two and three told of
 // each sender.
 #[repr(C)]
-#[derive(Drop)]
+#[derive(Clone, Copy)]
 pub struct Holdings {
     pub answer: u32,
     pub values: [u8; VECTOR_ROOM],

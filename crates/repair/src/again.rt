@@ -6,7 +6,7 @@ ghost use Rattle.repair.specs.Again.{AgainSays};
 use crate::{RepairAnswer, repair_by};
 
 // What repair answers, and whether that is the last answer again.
-#[derive(Drop)]
+#[derive(Clone, Copy)]
 pub struct Again {
     pub again: bool,
     pub answer: RepairAnswer,

@@ -19,7 +19,7 @@ const NONE: u32 = 256;
 // to the last wrong one, 0 where none is wrong, and all n + 2t where the plane has no codeword near. These are all 0 for a refusal, and 0
 // behind the planes that a value has.
 #[repr(C)]
-#[derive(Drop)]
+#[derive(Clone, Copy)]
 pub struct RepairAnswer {
     pub answer: u32,
     pub changed: u32,

@@ -27,7 +27,7 @@ pub fn put_checks(n: u32, t: u32, w: u32, values: &[u8], operand: &mut [u8])
 }
 
 // A vector and its check values, both from the front of their array on.
-#[derive(Drop)]
+#[derive(Clone, Copy)]
 pub struct Coded {
     pub n: u32,
     pub t: u32,
@@ -132,7 +132,7 @@ fn repaired(
 }
 
 // The last repair: its answer, and the row of the table that it gave; and what the last slot tells.
-#[derive(Drop)]
+#[derive(Clone, Copy)]
 pub struct Last {
     pub answer: RepairAnswer,
     pub at: usize,

@@ -36,7 +36,7 @@ use Rattle.errors.specs.Roots.{polynomial}
 use Rattle.errors.specs.Fractions.{told}
 use Rattle.errors.specs.Errors.{ErrorsFound}
 use Rattle.search.specs.Planes.{PlaneFound, Ended, Decoded}
-use Rattle.search.specs.Steps.{plane_sums, SoughtAll, Walked}
+use Rattle.search.specs.Steps.{plane_sums, AllSought, Walked}
 use Rattle.search.proofs.NoRoots.{one_nowhere, no_roots_below, one_at}
 use Rattle.search.proofs.Seeking.{short_sought, long_sought}
 use Rattle.search.proofs.Marked.{weighted_at, weighted_others, numbers_others, weighted_ended}
@@ -97,7 +97,7 @@ module _ (s : Settings) where
 
 module _ (planes turns_taken : ℕ) (s : Settings) (difference sums roots rows left tried marks weighted : List ℕ) (allowed : settings_refusal s ≡ 0)
     (bytes : (i : ℕ) → get_or difference i 0 < 256) (small : planes ≤ value_room) (some : 1 ≤ s.t)
-    (summed : CheckSums (check_count s) (check_count s) difference sums) (q : SoughtAll planes (check_count s) s.t sums roots rows)
+    (summed : CheckSums (check_count s) (check_count s) difference sums) (q : AllSought planes (check_count s) s.t sums roots rows)
     (w : Walked (s.n + check_count s) s rows roots left tried marks) (ended : Ended (s.n + check_count s) tried marks turns_taken)
     (d : ErrorsFound turns_taken (λ j p. told rows sums roots p (power 2 (place_exponent s.n (check_count s) j))) left marks weighted) where
   module _ (p : ℕ) (h : p < planes) where

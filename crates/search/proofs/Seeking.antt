@@ -28,7 +28,7 @@ use Rattle.locator.proofs.Rows.Lanes.{lane_written_none, lane_written_more}
 use Rattle.locator.proofs.Locator.Shape.{massey_length, massey_same}
 use Rattle.locator.proofs.Locator.Progression.{zero_locator, geometric_locator}
 use Rattle.errors.specs.Roots.{Fits}
-use Rattle.search.specs.Steps.{plane_sums, LanePut, ShortPut, FoundPut, Seeks, SoughtAll, ShortAll}
+use Rattle.search.specs.Steps.{plane_sums, LanePut, ShortPut, FoundPut, Seeks, AllSought, ShortAll}
 
 -- what is looked for, by the length of the locator
 module _ (t : ℕ) (state : State) where
@@ -171,7 +171,7 @@ seeks_geometric p count t roots sums rows now some true x e two h byte g s = sho
 -- plane by plane: the rows of those to come are zeros
 pub sought_none :
     (count t : ℕ) (sums roots rows : List ℕ) → length roots ≡ value_room → length rows ≡ locator_rows → all_zero roots ≡ true → all_zero rows ≡ true →
-    SoughtAll 0 count t sums roots rows
+    AllSought 0 count t sums roots rows
 sought_none count t sums roots rows e l y z =
     record {
       many = e;
@@ -184,8 +184,8 @@ sought_none count t sums roots rows e l y z =
     }
 
 pub sought_more :
-    (p count t v : ℕ) (sums roots rows now : List ℕ) → p < value_room → Seeks p count t sums v rows now → SoughtAll p count t sums roots rows →
-    SoughtAll (p + 1) count t sums (set roots p v) now
+    (p count t v : ℕ) (sums roots rows now : List ℕ) → p < value_room → Seeks p count t sums v rows now → AllSought p count t sums roots rows →
+    AllSought (p + 1) count t sums (set roots p v) now
 sought_more p count t v sums roots rows now h s d =
     record {
       many = length-set roots p v ∙ d.many;
@@ -223,14 +223,14 @@ sought_more p count t v sums roots rows now h s d =
 
 -- all planes in geometric progression
 pub short_all :
-    (answer : Bool) (planes count t : ℕ) (sums roots rows roots_now rows_now : List ℕ) → answer ≡ true → 1 ≤ t → SoughtAll 0 count t sums roots rows →
-    ShortAll answer planes count sums roots rows roots_now rows_now → SoughtAll planes count t sums roots_now rows_now
+    (answer : Bool) (planes count t : ℕ) (sums roots rows roots_now rows_now : List ℕ) → answer ≡ true → 1 ≤ t → AllSought 0 count t sums roots rows →
+    ShortAll answer planes count sums roots rows roots_now rows_now → AllSought planes count t sums roots_now rows_now
 unfolding ShortAll
 short_all false planes count t sums roots rows roots_now rows_now e some start s = true_not_false (sym e)
 short_all true planes count t sums roots rows roots_now rows_now e some start s = s t some start
 
 -- a plane that a value has not looks for no root of a polynomial that is 0
-module _ (planes count t : ℕ) (sums roots rows : List ℕ) (q : SoughtAll planes count t sums roots rows) where
+module _ (planes count t : ℕ) (sums roots rows : List ℕ) (q : AllSought planes count t sums roots rows) where
   pub fits : Fits t rows roots
   fits = record { many = q.many; small = λ p. small p (dec_lt p planes); past = λ p m h l. past p m h l (dec_lt p planes) }
     where

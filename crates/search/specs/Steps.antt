@@ -37,7 +37,7 @@ pub record Seeks (p count t : ℕ) (sums : List ℕ) (roots : ℕ) (rows rows_no
   pub put : LanePut p (sought t (massey (plane_sums p count sums) count)) rows rows_now
 
 -- what the first planes look for, the coefficients in rows, and zeros for the other planes
-pub record SoughtAll (planes count t : ℕ) (sums roots rows : List ℕ) : Type 0 where
+pub record AllSought (planes count t : ℕ) (sums roots rows : List ℕ) : Type 0 where
   pub many : length roots ≡ value_room
   pub long : length rows ≡ locator_rows
   pub size : (p : ℕ) → p < planes → get_or roots p 0 ≡ roots_sought t (massey (plane_sums p count sums) count)
@@ -50,7 +50,7 @@ pub record SoughtAll (planes count t : ℕ) (sums roots rows : List ℕ) : Type 
 unfoldable pub ShortAll : (answer : Bool) → (planes count : ℕ) → (sums roots rows roots_now rows_now : List ℕ) → Type 0
 ShortAll false planes count sums roots rows roots_now rows_now = Unit {0}
 ShortAll true planes count sums roots rows roots_now rows_now =
-    (t : ℕ) → 1 ≤ t → SoughtAll 0 count t sums roots rows → SoughtAll planes count t sums roots_now rows_now
+    (t : ℕ) → 1 ≤ t → AllSought 0 count t sums roots rows → AllSought planes count t sums roots_now rows_now
 
 -- so many coefficients give every polynomial its own values: those past it are 0
 unfoldable pub SameValues : (many : ℕ) → (rows roots : List ℕ) → Type 0

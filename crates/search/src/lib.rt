@@ -15,7 +15,7 @@ use code::sizes::{PLACE_ROWS, VALUE_ROOM};
 // What the search found. For each plane: how many of the roots looked for are left, none where a codeword is near, and how many places
 // were tried. In rows, one for each place, the weighted errors there, which are those of a codeword in the planes that have no root left.
 // And how many turns it took: as many as the plane that tried most.
-#[derive(Drop)]
+#[derive(Clone, Copy)]
 pub struct Errors {
     pub left: [u8; VALUE_ROOM],
     pub tried: [u8; VALUE_ROOM],

@@ -3,7 +3,7 @@ ghost use Rattle.std.specs.Prelude.{◌≡◌, ◌*◌, ◌≤◌, ◌<◌, leng
 ghost use Rattle.field.specs.Table.{Powers, Logarithms};
 ghost use Rattle.lanes.specs.Lanes.{row_width};
 ghost use Rattle.code.specs.Size.{most_bad, most_checks, value_room, locator_rows};
-ghost use Rattle.search.specs.Steps.{ShortPut, FoundPut, ShortAll, SoughtAll};
+ghost use Rattle.search.specs.Steps.{ShortPut, FoundPut, ShortAll, AllSought};
 
 use code::sizes::{LOCATOR_ROWS, PLANE_ROOM, VALUE_ROOM};
 use field::long::{long_logarithms, long_powers};
@@ -13,7 +13,7 @@ use locator::plane::put_plane;
 use locator::single::is_geometric;
 
 // For each plane how many roots, and the coefficients in rows.
-#[derive(Drop)]
+#[derive(Clone, Copy)]
 pub struct SoughtAll {
     pub roots: [u8; VALUE_ROOM],
     pub rows: [u8; LOCATOR_ROWS],
@@ -87,7 +87,7 @@ fn seek_long(
 ) -> SoughtAll
     requires powers { Powers powers.now × Logarithms logarithms.now }
     requires le_count { (2 ≤ count) × (count ≤ most_checks) × (row_width * count ≤ length sums.now) × (1 ≤ t) × (t ≤ most_bad) × (planes ≤ value_room) }
-    ensures { SoughtAll planes count t sums.now result.roots result.rows }
+    ensures { AllSought planes count t sums.now result.roots result.rows }
 {
     let longer = long_powers(powers);
     let exponents = long_logarithms(logarithms);
@@ -117,7 +117,7 @@ pub fn seek_all(
 ) -> SoughtAll
     requires powers { Powers powers.now × Logarithms logarithms.now }
     requires le_count { (2 ≤ count) × (count ≤ most_checks) × (row_width * count ≤ length sums.now) × (1 ≤ t) × (t ≤ most_bad) × (planes ≤ value_room) }
-    ensures { SoughtAll planes count t sums.now result.roots result.rows }
+    ensures { AllSought planes count t sums.now result.roots result.rows }
 {
     let mut roots = [0u8; VALUE_ROOM];
     let mut rows = [0u8; LOCATOR_ROWS];

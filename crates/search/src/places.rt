@@ -18,7 +18,7 @@ use sums::places::{LOCATOR_TABLES, SHORT_LOCATOR, SHORT_TABLES, place_exponent, 
 
 // What the walk found. For each plane: how many of the roots looked for are left, and how many places were tried. In rows, one for each
 // place, a 1 for each plane that found a root there. And how many turns it took: as many as the plane that tried most.
-#[derive(Drop)]
+#[derive(Clone, Copy)]
 pub struct Found {
     pub left: [u8; VALUE_ROOM],
     pub tried: [u8; VALUE_ROOM],

@@ -1,0 +1,20 @@
+use mathlib.Core.Path.{◌≡◌, refl, sym, ◌∙◌, subst}
+use mathlib.Core.Bool.{Bool, true, false, not}
+use Prim.Native.Nat.{ℕ, ◌+◌, ◌-◌, ◌≤◌, ◌<◌}
+use native.Mathlib.Omega.{arith}
+use lib.ListN.{length, length-set}
+use borrow.Author.Rules.{rules}
+use Rattle.arrays.proofs.Bool.{true_not_false}
+use Rattle.code.specs.Size.{value_room, locator_rows}
+use Rattle.search.specs.Steps.{AllSought, ShortAll}
+use Rattle.search.proofs.Seeking.{short_long, seeks_geometric, sought_more}
+use Rattle.search.proofs.locators.seek_short.Given as goal
+
+abbrev pub invariant-loop-p : goal.invariant-loop-p
+invariant-loop-p l =
+    (l.p ≤ l.planes) × (length l.roots ≡ value_room) × (length l.rows ≡ locator_rows)
+    × ((t : ℕ) → 1 ≤ t → AllSought 0 l.count t l.sums l.initial.roots l.initial.rows → AllSought l.p l.count t l.sums l.roots l.rows)
+
+abbrev pub decreases-loop-p : goal.decreases-loop-p
+decreases-loop-p l = l.planes - l.p
+
