@@ -29,9 +29,9 @@ pub seek_all-sought-requires : goal.seek_all-sought-requires
 seek_all-sought-requires c =
     let z = few (goal.at.seek_all-sought-requires c).Start in
     let long = c.syndromes-sums.ensures.long in record {
-        powers = c.requires.powers;
-        le_count = (omega arith, omega arith, omega arith, omega arith, omega arith, omega arith);
-      }
+      powers = c.requires.powers;
+      le_count = (omega arith, omega arith, omega arith, omega arith, omega arith, omega arith);
+    }
 
 pub slice_bounds-walk-end : goal.slice_bounds-walk-end
 slice_bounds-walk-end c = sym c.seek_all-sought.ensures.long
@@ -39,9 +39,9 @@ slice_bounds-walk-end c = sym c.seek_all-sought.ensures.long
 pub walk-found-requires : goal.walk-found-requires
 walk-found-requires c =
     let z = few (goal.at.walk-found-requires c).Start in record {
-        powers = (c.requires.powers.0, z.0, omega arith, c.seek_all-sought.ensures.long);
-        fits = fits _ _ _ _ _ _ c.seek_all-sought.ensures;
-      }
+      powers = (c.requires.powers.0, z.0, omega arith, c.seek_all-sought.ensures.long);
+      fits = fits _ _ _ _ _ _ c.seek_all-sought.ensures;
+    }
 
 pub slice_bounds-put_found_errors-end : goal.slice_bounds-put_found_errors-end
 slice_bounds-put_found_errors-end c = sym c.seek_all-sought.ensures.long
@@ -56,10 +56,10 @@ pub put_found_errors-requires : goal.put_found_errors-requires
 put_found_errors-requires c =
     let z = few (goal.at.put_found_errors-requires c).Start in
     let walk = c.walk-found.ensures in record {
-        powers = (c.requires.powers.0, c.requires.powers.1, walk.walked.long);
-        n_le_most_columns = (z.0, omega arith, walk.ended.within, c.seek_all-sought.ensures.long, c.syndromes-sums.ensures.long);
-        fits = (fits _ _ _ _ _ _ c.seek_all-sought.ensures, walk.walked.left_long, unsought _ _ _ _ _ _ _ walk.walked);
-      }
+      powers = (c.requires.powers.0, c.requires.powers.1, walk.walked.long);
+      n_le_most_columns = (z.0, omega arith, walk.ended.within, c.seek_all-sought.ensures.long, c.syndromes-sums.ensures.long);
+      fits = (fits _ _ _ _ _ _ c.seek_all-sought.ensures, walk.walked.left_long, unsought _ _ _ _ _ _ _ walk.walked);
+    }
 
 pub returns : goal.returns
 unfolding settings check_count

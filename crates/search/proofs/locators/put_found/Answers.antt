@@ -1,7 +1,6 @@
 -- `put_found` meets its contract: the locator by all of its coefficients, or 1. Assumes nothing.
 use mathlib.Core.Path.{refl}
 use native.Mathlib.Omega.{arith}
-use borrow.Author.Rules.{rules}
 use Rattle.search.proofs.Seeking.{put_one}
 use Rattle.search.proofs.locators.put_found.Goals as goal
 

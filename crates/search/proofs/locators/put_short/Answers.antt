@@ -2,7 +2,6 @@
 use mathlib.Core.Path.{refl}
 use native.Mathlib.Omega.{arith}
 use lib.ListN.{length-set}
-use borrow.Author.Rules.{rules}
 use Rattle.search.proofs.Seeking.{put_one, put_two}
 use Rattle.search.proofs.locators.put_short.Goals as goal
 

@@ -1,15 +1,14 @@
 -- `seek_all` meets its contract, by the short locators or the long ones. Assumes nothing.
 use mathlib.Core.Path.{refl}
-use borrow.Author.Rules.{rules}
 use Rattle.search.proofs.Seeking.{sought_none, short_all}
 use Rattle.search.proofs.locators.seek_all.Goals as goal
 
 pub seek_short-requires : goal.seek_short-requires
 seek_short-requires c = record {
-        powers = c.requires.powers;
-        le_count = (c.requires.le_count.0, c.requires.le_count.1, c.requires.le_count.2, c.requires.le_count.5);
-        roots_len = (refl, refl);
-      }
+  powers = c.requires.powers;
+  le_count = (c.requires.le_count.0, c.requires.le_count.1, c.requires.le_count.2, c.requires.le_count.5);
+  roots_len = (refl, refl);
+}
 
 pub returns-then-seek_short : goal.returns-then-seek_short
 returns-then-seek_short c =

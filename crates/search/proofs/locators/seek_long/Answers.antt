@@ -1,8 +1,7 @@
 -- `seek_long` meets its contract: plane after plane, by the end of its part of the locators. Assumes nothing.
 use mathlib.Core.Path.{◌≡◌, refl, sym, ◌∙◌, subst}
-use Prim.Native.Nat.{ℕ, ◌+◌, ◌*◌, ◌-◌, ◌^◌, ◌≤◌, ◌<◌}
+use Prim.Native.Nat.{ℕ, ◌+◌, ◌*◌, ◌^◌, ◌≤◌, ◌<◌}
 use native.Mathlib.Omega.{arith}
-use borrow.Author.Rules.{rules}
 use lib.ListN.{get_or}
 use Rattle.code.specs.Size.{plane_room}
 use Rattle.locator.specs.Reached.{sums_of}
@@ -14,9 +13,9 @@ use Rattle.search.proofs.locators.seek_long.Goals.{At-loop-p}
 
 pub locate_all-found-requires : goal.locate_all-found-requires
 locate_all-found-requires c = record {
-        long_powers = (c.long_powers-longer.ensures, c.long_logarithms-exponents.ensures);
-        planes_le_value_room = (c.requires.le_count.5, omega (arith, c.requires.le_count.1), c.requires.le_count.2);
-      }
+  long_powers = (c.long_powers-longer.ensures, c.long_logarithms-exponents.ensures);
+  planes_le_value_room = (c.requires.le_count.5, omega (arith, c.requires.le_count.1), c.requires.le_count.2);
+}
 
 pub loop-p-init : goal.loop-p-init
 loop-p-init c = (omega arith, sought_none _ _ _ _ _ refl refl refl refl)
@@ -59,13 +58,12 @@ pub slice_bounds-put_found-end-in-loop-p : goal.slice_bounds-put_found-end-in-lo
 slice_bounds-put_found-end-in-loop-p c = omega (arith, inside (goal.at.slice_bounds-put_found-end-in-loop-p c).At-loop-p c.loop-p-test.true, c.locate_all-found.ensures.long)
 
 pub put_found-requires : goal.put_found-requires
-put_found-requires c =
-    (
-      omega (arith, inside (goal.at.put_found-requires c).At-loop-p c.loop-p-test.true),
-      c.loop-p.invariant.1.long,
-      omega (arith, last_long (p (goal.at.put_found-requires c).At-loop-p c.loop-p-test.true) (size (goal.at.put_found-requires c).At-loop-p c.loop-p-test.true) c.locate_all-found.result.locators (inside (goal.at.put_found-requires c).At-loop-p c.loop-p-test.true) (short (goal.at.put_found-requires c).At-loop-p c.loop-p-test.true) c.locate_all-found.ensures.long),
-      c.requires.le_count.4,
-    )
+put_found-requires c = (
+  omega (arith, inside (goal.at.put_found-requires c).At-loop-p c.loop-p-test.true),
+  c.loop-p.invariant.1.long,
+  omega (arith, last_long (p (goal.at.put_found-requires c).At-loop-p c.loop-p-test.true) (size (goal.at.put_found-requires c).At-loop-p c.loop-p-test.true) c.locate_all-found.result.locators (inside (goal.at.put_found-requires c).At-loop-p c.loop-p-test.true) (short (goal.at.put_found-requires c).At-loop-p c.loop-p-test.true) c.locate_all-found.ensures.long),
+  c.requires.le_count.4,
+)
 
 pub loop-p-preserved : goal.loop-p-preserved
 loop-p-preserved c =

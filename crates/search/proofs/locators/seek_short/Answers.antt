@@ -2,12 +2,10 @@
 -- Assumes nothing.
 use mathlib.Core.Path.{◌≡◌, refl, sym, ◌∙◌, subst}
 use mathlib.Core.Bool.{Bool, true, false, not}
-use Prim.Native.Nat.{ℕ, ◌+◌, ◌-◌, ◌≤◌, ◌<◌}
+use Prim.Native.Nat.{ℕ, ◌+◌, ◌≤◌, ◌<◌}
 use native.Mathlib.Omega.{arith}
 use lib.ListN.{length, length-set}
-use borrow.Author.Rules.{rules}
 use Rattle.arrays.proofs.Bool.{true_not_false}
-use Rattle.code.specs.Size.{value_room, locator_rows}
 use Rattle.search.specs.Steps.{AllSought, ShortAll}
 use Rattle.search.proofs.Seeking.{short_long, seeks_geometric, sought_more}
 use Rattle.search.proofs.locators.seek_short.Goals as goal
@@ -22,9 +20,9 @@ loop-p-init c = (omega arith, c.requires.roots_len.0, c.requires.roots_len.1, λ
 
 pub is_geometric-requires : goal.is_geometric-requires
 is_geometric-requires c = record {
-        powers = c.requires.powers;
-        p_lt_row_width = (omega (arith, c.loop-p-test.true, c.requires.le_count.3), c.requires.le_count.1, c.requires.le_count.2);
-      }
+  powers = c.requires.powers;
+  p_lt_row_width = (omega (arith, c.loop-p-test.true, c.requires.le_count.3), c.requires.le_count.1, c.requires.le_count.2);
+}
 
 pub shape_of-roots-then-not-is_geometric : goal.shape_of-roots-then-not-is_geometric
 shape_of-roots-then-not-is_geometric c =

@@ -1,13 +1,8 @@
-use mathlib.Core.Path.{◌≡◌, refl, sym, ◌∙◌, subst}
-use mathlib.Core.Bool.{Bool, true, false, not}
-use Prim.Native.Nat.{ℕ, ◌+◌, ◌-◌, ◌≤◌, ◌<◌}
-use native.Mathlib.Omega.{arith}
-use lib.ListN.{length, length-set}
-use borrow.Author.Rules.{rules}
-use Rattle.arrays.proofs.Bool.{true_not_false}
+use mathlib.Core.Path.{◌≡◌}
+use Prim.Native.Nat.{ℕ, ◌-◌, ◌≤◌}
+use lib.ListN.{length}
 use Rattle.code.specs.Size.{value_room, locator_rows}
-use Rattle.search.specs.Steps.{AllSought, ShortAll}
-use Rattle.search.proofs.Seeking.{short_long, seeks_geometric, sought_more}
+use Rattle.search.specs.Steps.{AllSought}
 use Rattle.search.proofs.locators.seek_short.Given as goal
 
 abbrev pub invariant-loop-p : goal.invariant-loop-p
@@ -17,4 +12,3 @@ invariant-loop-p l =
 
 abbrev pub decreases-loop-p : goal.decreases-loop-p
 decreases-loop-p l = l.planes - l.p
-

@@ -1,11 +1,10 @@
 -- `count_place` meets its contract: each byte is read before it is written. Assumes nothing.
 use mathlib.Core.Path.{◌≡◌, ◌∙◌, ap}
 use mathlib.Core.Bool.{cond}
-use Prim.Native.Nat.{ℕ, ◌+◌, ◌-◌, ◌≤◌}
+use Prim.Native.Nat.{ℕ, ◌+◌}
 use native.Mathlib.Omega.{arith}
 use lib.Dec.{eqb}
 use lib.ListN.{get_or}
-use Rattle.arrays.specs.Array.{Written}
 use Rattle.arrays.proofs.Written.{written_none, written_to}
 use Rattle.code.specs.Size.{value_room}
 use Rattle.search.proofs.Turn.{stored}

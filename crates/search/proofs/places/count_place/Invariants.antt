@@ -1,13 +1,9 @@
-use mathlib.Core.Path.{◌≡◌, ◌∙◌, ap}
 use mathlib.Core.Bool.{cond}
-use Prim.Native.Nat.{ℕ, ◌+◌, ◌-◌, ◌≤◌}
-use native.Mathlib.Omega.{arith}
+use Prim.Native.Nat.{◌+◌, ◌-◌, ◌≤◌}
 use lib.Dec.{eqb}
 use lib.ListN.{get_or}
 use Rattle.arrays.specs.Array.{Written}
-use Rattle.arrays.proofs.Written.{written_none, written_to}
 use Rattle.code.specs.Size.{value_room}
-use Rattle.search.proofs.Turn.{stored}
 use Rattle.search.proofs.places.count_place.Given as goal
 
 abbrev pub invariant-loop-p : goal.invariant-loop-p
@@ -15,4 +11,3 @@ invariant-loop-p l = (l.p ≤ value_room) × Written 0 l.p (λ q. get_or l.initi
 
 abbrev pub decreases-loop-p : goal.decreases-loop-p
 decreases-loop-p l = value_room - l.p
-

@@ -1,6 +1,5 @@
 -- `end_of` meets its contract: its test is the one of the definition. Assumes nothing.
 use mathlib.Core.Path.{refl, sym, ◌∙◌}
-use borrow.Author.Rules.{rules}
 use Rattle.search.proofs.places.end_of.Goals as goal
 
 pub returns-then-is_zero : goal.returns-then-is_zero

@@ -1,8 +1,5 @@
 -- `find_roots` meets its contract: plane after plane. Assumes nothing.
-use Prim.Native.Nat.{◌-◌, ◌≤◌}
 use native.Mathlib.Omega.{arith}
-use Rattle.code.specs.Size.{value_room}
-use Rattle.search.specs.Steps.{RootsFound}
 use Rattle.search.proofs.Turn.{roots_none, roots_more, roots_whole}
 use Rattle.search.proofs.places.find_roots.Goals as goal
 

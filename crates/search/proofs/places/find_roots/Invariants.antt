@@ -1,8 +1,6 @@
 use Prim.Native.Nat.{◌-◌, ◌≤◌}
-use native.Mathlib.Omega.{arith}
 use Rattle.code.specs.Size.{value_room}
 use Rattle.search.specs.Steps.{RootsFound}
-use Rattle.search.proofs.Turn.{roots_none, roots_more, roots_whole}
 use Rattle.search.proofs.places.find_roots.Given as goal
 
 abbrev pub invariant-loop-p : goal.invariant-loop-p
@@ -10,4 +8,3 @@ invariant-loop-p l = (l.p ≤ value_room) × RootsFound l.p l.at l.values l.init
 
 abbrev pub decreases-loop-p : goal.decreases-loop-p
 decreases-loop-p l = value_room - l.p
-

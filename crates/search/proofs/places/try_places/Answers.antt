@@ -2,22 +2,20 @@
 use mathlib.Core.Path.{◌≡◌, refl, sym, ◌∙◌, ap}
 use mathlib.Core.Bool.{Bool, true, false, cond}
 use mathlib.Core.List.{List}
-use Prim.Native.Nat.{ℕ, ◌+◌, ◌*◌, ◌-◌, ◌≤◌, ◌<◌}
+use Prim.Native.Nat.{ℕ, ◌+◌, ◌*◌, ◌≤◌, ◌<◌}
 use native.Mathlib.Omega.{arith}
-use lib.ListN.{length}
-use borrow.Author.Rules.{rules}
 use Rattle.arrays.specs.Array.{all_zero}
 use Rattle.arrays.proofs.Written.{written_filled}
 use Rattle.field.specs.Field.{power}
 use Rattle.field.proofs.Power.{power_lt}
-use Rattle.lanes.specs.Lanes.{row_width, lane}
+use Rattle.lanes.specs.Lanes.{lane}
 use Rattle.code.specs.Size.{value_room}
 use Rattle.code.specs.Settings.{settings, check_count}
 use Rattle.code.specs.Polynomial.{eval}
 use Rattle.locator.specs.Errors.{place_exponent}
 use Rattle.locator.specs.Search.{at_place}
-use Rattle.errors.specs.Roots.{Longest, polynomial}
-use Rattle.search.specs.Steps.{SameValues, Walked}
+use Rattle.errors.specs.Roots.{polynomial}
+use Rattle.search.specs.Steps.{SameValues}
 use Rattle.search.proofs.Walk.{walked_none, walked_more, walked_end, ended_none, ended_more}
 use Rattle.search.proofs.places.try_places.Goals as goal
 use Rattle.search.proofs.places.try_places.Goals.{At-loop-j, In-loop-j}
@@ -57,9 +55,9 @@ slice_bounds-put_values-end c = sym c.loop-j.invariant.2
 pub put_values-requires : goal.put_values-requires
 put_values-requires c =
     let many = c.requires.le_many in record {
-        powers = (c.requires.powers.0, many.2);
-        exponent_bound = (c.place_exponent-exponent.ensures.0, many.0, many.1, omega (arith, many, c.requires.powers), omega (arith, c.loop-j.invariant.2));
-      }
+      powers = (c.requires.powers.0, many.2);
+      exponent_bound = (c.place_exponent-exponent.ensures.0, many.0, many.1, omega (arith, many, c.requires.powers), omega (arith, c.loop-j.invariant.2));
+    }
 
 pub slice_bounds-count_place-end : goal.slice_bounds-count_place-end
 slice_bounds-count_place-end c = sym c.loop-j.invariant.3.left_long
@@ -69,9 +67,9 @@ slice_bounds-count_place-end-in-loop-j c = sym c.loop-j.invariant.3.tried_long
 
 pub count_place-requires : goal.count_place-requires
 count_place-requires c = record {
-        left_len = (c.loop-j.invariant.3.left_long, c.loop-j.invariant.3.tried_long);
-        by_index = λ p h. omega (arith, c.requires.powers, inside (goal.at.count_place-requires c).In-loop-j, c.loop-j.invariant.4.above p);
-      }
+  left_len = (c.loop-j.invariant.3.left_long, c.loop-j.invariant.3.tried_long);
+  by_index = λ p h. omega (arith, c.requires.powers, inside (goal.at.count_place-requires c).In-loop-j, c.loop-j.invariant.4.above p);
+}
 
 pub slice_bounds-find_roots-end : goal.slice_bounds-find_roots-end
 slice_bounds-find_roots-end c = sym (c.put_values.ensures.long ∙ c.loop-j.invariant.2)

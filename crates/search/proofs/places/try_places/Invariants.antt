@@ -1,23 +1,13 @@
-use mathlib.Core.Path.{◌≡◌, refl, sym, ◌∙◌, ap}
-use mathlib.Core.Bool.{Bool, true, false, cond}
-use mathlib.Core.List.{List}
-use Prim.Native.Nat.{ℕ, ◌+◌, ◌*◌, ◌-◌, ◌≤◌, ◌<◌}
-use native.Mathlib.Omega.{arith}
+use mathlib.Core.Path.{◌≡◌}
+use mathlib.Core.Bool.{cond}
+use Prim.Native.Nat.{◌+◌, ◌*◌, ◌-◌, ◌≤◌}
 use lib.ListN.{length}
-use borrow.Author.Rules.{rules}
 use Rattle.arrays.specs.Array.{all_zero}
-use Rattle.arrays.proofs.Written.{written_filled}
-use Rattle.field.specs.Field.{power}
-use Rattle.field.proofs.Power.{power_lt}
-use Rattle.lanes.specs.Lanes.{row_width, lane}
+use Rattle.lanes.specs.Lanes.{row_width}
 use Rattle.code.specs.Size.{value_room}
-use Rattle.code.specs.Settings.{settings, check_count}
-use Rattle.code.specs.Polynomial.{eval}
-use Rattle.locator.specs.Errors.{place_exponent}
-use Rattle.locator.specs.Search.{at_place}
-use Rattle.errors.specs.Roots.{Longest, polynomial}
-use Rattle.search.specs.Steps.{SameValues, Walked}
-use Rattle.search.proofs.Walk.{walked_none, walked_more, walked_end, ended_none, ended_more}
+use Rattle.code.specs.Settings.{settings}
+use Rattle.errors.specs.Roots.{Longest}
+use Rattle.search.specs.Steps.{Walked}
 use Rattle.search.proofs.places.try_places.Given as goal
 
 abbrev pub invariant-loop-j : goal.invariant-loop-j
@@ -27,4 +17,3 @@ invariant-loop-j l =
 
 abbrev pub decreases-loop-j : goal.decreases-loop-j
 decreases-loop-j l = l.n + 2 * l.t - l.j
-
