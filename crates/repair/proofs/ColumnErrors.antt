@@ -30,7 +30,6 @@ use Rattle.field.proofs.Logarithm.{times_comm}
 use Rattle.field.proofs.Division.{inverse_lt}
 use Rattle.code.specs.Settings.{Settings, check_count, value_size}
 use Rattle.code.proofs.Vectors.Planes.{Values, vector_back, plane_length}
-use Rattle.locator.specs.Locator.{value}
 use Rattle.locator.specs.Errors.{error_byte}
 use Rattle.lanes.proofs.Lane.{lane_at}
 use Rattle.locator.proofs.Errors.Places.{place_exponent_column}
