@@ -18,7 +18,7 @@ use Rattle.record.specs.Refusal.{line, first_of, number_refusal, size_refusal, b
 use Rattle.rounds.specs.Exchange.{Table, heard_at, heard_vector, Closed}
 use Rattle.column.specs.Call.{Call, closing, Leads, AfterClose, Run, no_call, one_call}
 use Rattle.grading.specs.Promise.{member, all_different}
-use Rattle.gradecast.specs.Promise.{Good, numbers, Among, first, Ran, holds, Gradecast}
+use Rattle.gradecast.specs.Promise.{Good, numbers, Among, first, other, Ran, holds, Gradecast}
 use Rattle.gradecast.proofs.Gradecast.{gradecast}
 
 -- n = 3, t = 1
@@ -35,6 +35,7 @@ four_opens w k v a b c d e f =
 -- n = 1, t = 0, own 7
 only_among : {g : Good} (P : Good → Type 0) (a : Good) → P g → Among a (g ∷ []) → P a
 only_among P a p (first gs) = p
+only_among {g = g} P a p (other _ _ x3) = elim x3 [ ]
 
 pub alone_holds :
     (run : ℕ) (cs : List Call) (last : Rec) → Run (opened (settings 1 0 1) 1 run (7 ∷ [])) cs last → last.round ≡ 4 →

@@ -20,6 +20,7 @@ among_map f (other y xs i) = other (f y) (map f xs) (among_map f i)
 pub each_map : {A B : Type 0} (f : A → B) (P : B → Type 0) (xs : List A) → ((x : A) → Among x xs → P (f x)) → (y : B) → Among y (map f xs) → P y
 each_map f P (x ∷ xs) h y (first ys) = h x (first xs)
 each_map f P (x ∷ xs) h y (other z ys i) = each_map f P xs (λ a j. h a (other x xs j)) y i
+each_map {A = A} {B = B} f P [] h y x'' = elim x'' [ ]
 
 -- one of the list, and its number
 pub among_member : {a : Good} {gs : List Good} → Among a gs → member a.number (numbers gs) ≡ true
