@@ -18,7 +18,7 @@ use Rattle.record.specs.View.{settings_of, who_in, view}
 use Rattle.record.specs.declared.Column.{Column}
 use Rattle.record.proofs.Refusal.{line_zero, first_of_zero, ask_round, ask_settings}
 use Rattle.record.proofs.View.{found_held}
-use Rattle.level.specs.Level.{height, confident, ascending, blank_columns, dropped, without_ends, left, blank_columns_refusal, level_refusal}
+use Rattle.level.specs.Level.{confident, ascending, blank_columns, dropped, without_ends, left, blank_columns_refusal, level_refusal}
 use Rattle.level.specs.Promise.{LeftBetween, LeftCount, SomeLeft}
 use Rattle.level.proofs.Gathering.{ascending_length}
 use Rattle.level.proofs.Remaining.{many_left}

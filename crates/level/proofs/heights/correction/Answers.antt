@@ -11,8 +11,7 @@ use borrow.Author.Rules.{rules}
 use mir.Facts.{to_z-of_z}
 use Rattle.level.specs.Level.{height}
 use Rattle.level.proofs.Integers.{stored, difference_fits, height_of}
-use Rattle.level.proofs.heights.correction.Statement.{statement}
-use Rattle.level.proofs.heights.correction.Tie as tie
+use Rattle.level.proofs.heights.correction.Goals as goal
 
 own_height : (own : List ℕ) → height (get_or own 0 0 ∷ get_or own 1 0 ∷ get_or own 2 0 ∷ get_or own 3 0 ∷ []) ≡ height (take 4 own)
 own_height own = height_of (take 4 own) _ _ _ _ (at 0 (omega arith)) (at 1 (omega arith)) (at 2 (omega arith)) (at 3 (omega arith))
@@ -20,27 +19,15 @@ own_height own = height_of (take 4 own) _ _ _ _ (at 0 (omega arith)) (at 1 (omeg
     at : (p : ℕ) → p < 4 → get_or own p 0 ≡ get_or (take 4 own) p 0
     at p h = sym (get_or-take 4 own p 0 h)
 
-sub-result : tie.Need-overflow-sub-result
-sub-result c =
-    let level = stored c.before.args.level (omega arith) in
-    let own = stored c.height.result (omega arith) in
-    let small : mag c.height.result < 4294967296 = omega arith in
+pub overflow_sub-result : goal.overflow_sub-result
+overflow_sub-result c =
+    let level = stored c.args.level (omega arith) in
+    let own = stored c.height-own_height.result (omega arith) in
+    let small : mag c.height-own_height.result < 4294967296 = omega arith in
     rw (level, own) (search (difference_fits, rules))
 
-returns : tie.Need-returns
+pub returns : goal.returns
 returns c =
-    let level = stored c.before.args.level (omega arith) in
-    let own = stored c.height.result (omega arith) in
-    rw (to_z-of_z (sub-result c), level, own) (ap (λ (h : ℤ). c.before.args.level -ℤ h) (c.height.ensures.0 ∙ own_height c.before.args.t2))
-
-pub correction_spec : {M : Type 1} → statement M
-correction_spec =
-    tie.close
-    (tie.spec
-    (λ c. search rules)
-    (λ c. search rules)
-    (λ c. search rules)
-    (λ c. search rules)
-    (λ c κs. tt)
-    sub-result
-    returns)
+    let level = stored c.args.level (omega arith) in
+    let own = stored c.height-own_height.result (omega arith) in
+    rw (to_z-of_z (overflow_sub-result c), level, own) (ap (λ (h : ℤ). c.args.level -ℤ h) (c.height-own_height.ensures.0 ∙ own_height c.args.own))
