@@ -93,6 +93,7 @@ module _ (s : Settings) (run : ℕ) where
       let x = f g (first gs) in (x.ran, subst (λ (a : Good). Among a (g ∷ gs)) (sym x.same) (first gs), x.stored)
   builts_each (g ∷ gs) f b (other a bs i) =
       let x = builts_each gs (λ c j. f c (other g gs j)) b i in (x.0, other g gs x.1, x.2)
+  builts_each [] f b x' = elim x' [ ]
 
   builts_at :
       (gs : List Good) (f : (g : Good) → Among g gs → Followed s run g) (g : Good) → Among g gs → (b : Built) × Among b (builts gs f) × (defined b ≡ g)
@@ -100,6 +101,7 @@ module _ (s : Settings) (run : ℕ) where
   builts_at (g ∷ gs) f a (first hs) = ((f g (first gs)).built, first _, (f g (first gs)).same)
   builts_at (g ∷ gs) f a (other h hs i) =
       let x = builts_at gs (λ c j. f c (other g gs j)) a i in (x.0, other _ _ x.1, x.2)
+  builts_at [] f a x' = elim x' [ ]
 
 -- a group as built
 module _ (s : Settings) (run : ℕ) (gs : List Good) (conditions : Conditions s run gs) (bytes : (g : Good) → Among g gs → of_bytes g ≡ true) where

@@ -76,11 +76,11 @@ module _ (s : Settings) (k run : ℕ) (v : Value) (o : Opens s k v) where
 
   pub sendable : (xs : List Call) → byte_list v ≡ true → byte_frames xs ≡ true → Sendable (opened s k run v) xs
   unfolding Sendable
-  sendable xs own e at x rest w = go (proper_open s k run v o) (open_bytes s k run v o own) e w
+  sendable xs own e at x rest w = go w (proper_open s k run v o) (open_bytes s k run v o own) e
     where
-      go : {r : Rec} {ys : List Call} → Proper s k run v r → ByteRecord s r → byte_frames ys ≡ true → Passes r ys at (x ∷ rest) → CanSend x at
-      go p b f (here r ys) = can_send x at p b
-      go p b f (later r q z c ys zs l w) =
+      go : {r : Rec} {ys : List Call} → Passes r ys at (x ∷ rest) → Proper s k run v r → ByteRecord s r → byte_frames ys ≡ true → CanSend x at
+      go (here r ys) p b f = can_send x at p b
+      go (later r q z c ys zs l w) p b f =
           let call = first_call c ys f in
           let step = step_of c r q l in
-          go (proper_step s k run v o c r q p step) (step_bytes s k run v o c r q p b call.0 step) call.1 w
+          go w (proper_step s k run v o c r q p step) (step_bytes s k run v o c r q p b call.0 step) call.1

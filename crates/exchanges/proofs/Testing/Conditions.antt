@@ -21,7 +21,7 @@ use Rattle.record.specs.Frame.{header_size, run_in}
 use Rattle.record.specs.Record.{Rec, opened, InTime}
 use Rattle.record.specs.Refusal.{open_refusal, other_round_refusal}
 use Rattle.record.proofs.InTime.{in_time_of}
-use Rattle.column.specs.Call.{Call, here}
+use Rattle.column.specs.Call.{Call}
 use Rattle.gradecast.specs.Promise.{Among, first, other, Good, numbers, Ran, RoundFrame, Handed, Fair, Conditions}
 use Rattle.gradecast.proofs.Goods.{each_map}
 use Rattle.exchanges.proofs.Testing.Frames.{frame_test, frame_tested, takes_now, taken_now, given_test, given_tested}

@@ -80,5 +80,8 @@ pub given_tested :
     (test : List ℕ → Bool) (k : ℕ) (bs : List ℕ) {r z : Rec} {cs rest : List Call} → given_test test k cs ≡ true → Passes r cs z (taking k bs ∷ rest) →
     test bs ≡ true
 unfolding given_test
-given_tested test k bs e (here r cs) = rw (eq-eqb k k refl) at (and_split (cond (eqb k k) (test bs) true) _ e).0
-given_tested test k bs e (later r q z c cs rest l p) = given_tested test k bs (given_later test k c cs e) p
+given_tested test k bs e p = go p e
+  where
+    go : {r z : Rec} {cs rest : List Call} → Passes r cs z (taking k bs ∷ rest) → given_test test k cs ≡ true → test bs ≡ true
+    go (here r cs) e = rw (eq-eqb k k refl) at (and_split (cond (eqb k k) (test bs) true) _ e).0
+    go (later r q z c cs rest l p) e = go p (given_later test k c cs e)
