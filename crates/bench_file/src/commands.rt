@@ -283,7 +283,7 @@ fn after_command(at: usize, head: Head, places: Places) -> Places
 }
 
 // Where reading goes on behind a command: nowhere, it is turned down; nowhere, it is the end; the place of the next.
-#[derive(Drop)]
+#[derive(Clone, Copy)]
 pub enum Turn {
     Refused(u32),
     End,

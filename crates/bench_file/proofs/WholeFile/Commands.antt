@@ -8,7 +8,7 @@ use native.Mathlib.Omega.{arith}
 use lib.Dec.{eqb, leb, ltb}
 use lib.ListN.{length, get_or, drop}
 use borrow.Author.Tests.{eq-eqb, ne_eqb, ltb-false, lt-ltb, le-ltb}
-use Rattle.code.specs.Settings.{Settings, settings_refusal, settings}
+use Rattle.code.specs.Settings.{Settings, settings_refusal}
 use Rattle.arrays.proofs.Bool.{or_split}
 use Rattle.grading.specs.Value.{is_blank}
 use Rattle.record.specs.Refusal.{line, first_of, blank_refusal}

@@ -6,10 +6,9 @@ use borrow.Author.Rules.{rules}
 use Rattle.code.specs.Size.{most_columns}
 use Rattle.bench_file.specs.Scenario.{with_own, own_of}
 use Rattle.bench_file.proofs.Located.{own_more, own_opens}
-use Rattle.bench_file.proofs.places.with_own.Statement.{statement}
-use Rattle.bench_file.proofs.places.with_own.Tie as tie
+use Rattle.bench_file.proofs.places.with_own.Goals as goal
 
-returns : tie.Need-returns
+pub returns : goal.returns
 unfolding with_own own_of
 returns c file f v h stored good =
     let a = c.args in
@@ -23,6 +22,3 @@ returns c file f v h stored good =
       late = h.late;
       opens = λ k u. own_opens f.settings a.column v f.owns good h.opens k u;
     }
-
-pub with_own_spec : {M : Type 1} → statement M
-with_own_spec = tie.close (tie.spec (λ c. search rules) (λ c. search rules) (λ c. search rules) (λ c. search rules) returns)

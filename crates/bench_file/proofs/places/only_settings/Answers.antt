@@ -7,10 +7,9 @@ use Rattle.bench_file.specs.Scenario.{only_settings, own_of, message_of}
 use Rattle.bench_file.specs.Command.{no_message}
 use Rattle.bench_file.specs.Steps.Places.{BytesAt, most_messages, message_index}
 use Rattle.bench_file.proofs.Located.{none_some}
-use Rattle.bench_file.proofs.places.only_settings.Statement.{statement}
-use Rattle.bench_file.proofs.places.only_settings.Tie as tie
+use Rattle.bench_file.proofs.places.only_settings.Goals as goal
 
-returns : tie.Need-returns
+pub returns : goal.returns
 unfolding only_settings BytesAt own_of message_of no_message
 returns c file h =
     record {
@@ -21,6 +20,3 @@ returns c file h =
       late = refl;
       opens = λ k v e. none_some e;
     }
-
-pub only_settings_spec : {M : Type 1} → statement M
-only_settings_spec = tie.close (tie.spec returns)

@@ -8,15 +8,14 @@ use Rattle.bench_file.specs.Scenario.{message, with_message}
 use Rattle.bench_file.specs.Command.{no_message}
 use Rattle.bench_file.specs.Steps.Places.{most_messages}
 use Rattle.bench_file.proofs.Located.{message_more}
-use Rattle.bench_file.proofs.places.with_message.Statement.{statement}
-use Rattle.bench_file.proofs.places.with_message.Tie as tie
+use Rattle.bench_file.proofs.places.with_message.Goals as goal
 
-returns : tie.Need-returns
+pub returns : goal.returns
 unfolding with_message no_message message
 returns c file f x h stored =
-    let a = c.before.args in
+    let a = c.args in
     let long : length a.places.messages ≡ most_messages = search rules in
-    let at = c.index-of-message.ensures in
+    let at = c.index_of_message-i.ensures in
     record {
       settings = h.settings;
       fine = h.fine;
@@ -24,11 +23,8 @@ returns c file f x h stored =
       messages =
           λ m k l range.
           rw at.0
-          (message_more file (operand_size f.settings) a.at (message a.round a.from a.to x) f.messages a.places.messages c.before.requires
+          (message_more file (operand_size f.settings) a.at (message a.round a.from a.to x) f.messages a.places.messages c.requires
           (omega (arith, at.0, at.1)) stored m k l range (h.messages m k l range));
       late = refl;
       opens = h.opens;
     }
-
-pub with_message_spec : {M : Type 1} → statement M
-with_message_spec = tie.close (tie.spec (λ c κs. search rules) (λ c. search rules) (λ c. search rules) returns)
