@@ -74,6 +74,7 @@ fn parse_commands(file: &[u8], group: Places) -> Parsed
 }
 
 // A whole file: one that is too long is 19 before any command is read.
+#[tactic(auto, using(crate::proofs::WholeFile::Commands::parsed_long))]
 pub fn parse(file: &[u8]) -> Parsed
     ensures { ParsedAs (parse_file file.now) file.now result.answer result.places }
 {

@@ -17,6 +17,8 @@ use Rattle.record.proofs.Refusal.{first_of_zero}
 use Rattle.bench_file.specs.Scenario.{Scenario, only_settings, is_good, message_of}
 use Rattle.bench_file.specs.Command.{command_in, is_known, head_size, command_size, body_in, no_message, form_fault, form_refusal, is_column, column_refusal, message_refusal, checks_round_refusal, operand_refusal, value_refusal, command_refusal, after_command}
 use Rattle.bench_file.specs.File.{refused, parsed, longest_file, group_in, group_refusal, commands_from, parse_commands, parse_file}
+use Rattle.bench_file.specs.Steps.Reading.{ParsedAs}
+use Rattle.bench_file.specs.declared.places.Places.{Places}
 use Rattle.bench_file.proofs.OneCommand.Faults.{line_passed}
 
 -- one command
@@ -131,6 +133,10 @@ group_fits bs e =
 pub parse_long : (bs : List ℕ) → longest_file < length bs → parse_file bs ≡ refused 19
 unfolding parse_file
 parse_long bs h = rw (lt-ltb longest_file (length bs) h) refl
+
+pub parsed_long : (bs : List ℕ) (a : ℕ) (p : Places) → longest_file < length bs → a ≡ 19 → ParsedAs (parse_file bs) bs a p
+unfolding ParsedAs
+parsed_long bs a p h e = rw (parse_long bs h) (e, (λ z. omega (arith, z)), omega arith)
 
 pub parse_refused : (bs : List ℕ) → length bs ≤ longest_file → (group_refusal bs ≡ 0 → ⊥) → parse_file bs ≡ refused (group_refusal bs)
 unfolding parse_file parse_commands

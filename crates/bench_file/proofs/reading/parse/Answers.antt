@@ -4,13 +4,9 @@ use native.Mathlib.Omega.{arith}
 use Rattle.code.specs.Settings.{settings}
 use Rattle.bench_file.specs.File.{group_in, group_refusal}
 use Rattle.bench_file.specs.Steps.Reading.{ParsedAs}
-use Rattle.bench_file.proofs.WholeFile.Commands.{group_le, group_fits, parse_long, parse_refused, parse_passed}
+use Rattle.bench_file.proofs.WholeFile.Commands.{group_le, group_fits, parse_refused, parse_passed}
 use Rattle.bench_file.proofs.reading.parse.Goals as goal
 use Rattle.bench_file.proofs.reading.parse.Goals.{After-group_refusal-refusal}
-
-pub returns-then-size-gt-LONGEST_FILE : goal.returns-then-size-gt-LONGEST_FILE
-unfolding ParsedAs
-returns-then-size-gt-LONGEST_FILE c = rw (parse_long _ c.if-size-gt-LONGEST_FILE.true) (c.refused.ensures, (λ z. omega (arith, z)), omega arith)
 
 -- where the group command is turned down
 group : (c : After-group_refusal-refusal) → c.group_refusal-refusal.result ≡ group_refusal c.args.file.now
@@ -19,7 +15,7 @@ group c = c.group_refusal-refusal.ensures _ c.head_at-head.ensures refl
 pub returns-then-refusal-ne0 : goal.returns-then-refusal-ne0
 unfolding ParsedAs
 returns-then-refusal-ne0 c =
-    rw (parse_refused _ c.if-size-gt-LONGEST_FILE.false (λ z. c.if-refusal-ne0.true (group (goal.at.returns-then-refusal-ne0 c).After-group_refusal-refusal ∙ z))) (c.refused-then-refusal-ne0.ensures ∙ group (goal.at.returns-then-refusal-ne0 c).After-group_refusal-refusal, (λ z. c.if-refusal-ne0.true (group (goal.at.returns-then-refusal-ne0 c).After-group_refusal-refusal ∙ z)), group_le _)
+    rw (parse_refused _ (omega arith) (λ z. c.if-refusal-ne0.true (group (goal.at.returns-then-refusal-ne0 c).After-group_refusal-refusal ∙ z))) (c.refused-then-refusal-ne0.ensures ∙ group (goal.at.returns-then-refusal-ne0 c).After-group_refusal-refusal, (λ z. c.if-refusal-ne0.true (group (goal.at.returns-then-refusal-ne0 c).After-group_refusal-refusal ∙ z)), group_le _)
 
 pub parse_commands-requires : goal.parse_commands-requires
 unfolding group_in
@@ -32,4 +28,4 @@ parse_commands-requires c =
     (fits.0, rw (sym same) (c.only_settings-group.ensures file (rw same fits.1)))
 
 pub returns : goal.returns
-returns c = rw (parse_passed _ c.if-size-gt-LONGEST_FILE.false (sym (group (goal.at.returns c).After-group_refusal-refusal) ∙ c.if-refusal-ne0.false)) c.parse_commands.ensures
+returns c = rw (parse_passed _ (omega arith) (sym (group (goal.at.returns c).After-group_refusal-refusal) ∙ c.if-refusal-ne0.false)) c.parse_commands.ensures
