@@ -1,6 +1,5 @@
 -- `sent` meets its contract: what `send` wrote in front of the array. Assumes nothing.
 use mathlib.Core.Path.{◌∙◌, ap}
-use borrow.Author.Rules.{rules}
 use lib.ListN.{take}
 use Rattle.arrays.proofs.Front.{front_value}
 use Rattle.record.specs.Record.{who_as}
@@ -8,17 +7,13 @@ use Rattle.record.specs.View.{settings_of, who_in, view}
 use Rattle.column.specs.Call.{FrameOf}
 use Rattle.record.specs.Frame.{frame_size}
 use Rattle.bench.specs.Steps.Running.{frame_bytes, Sends}
-use Rattle.bench.proofs.group.sent.Statement.{statement}
-use Rattle.bench.proofs.group.sent.Tie as tie
+use Rattle.bench.proofs.group.sent.Goals as goal
 
-returns : tie.Need-returns
+pub returns : goal.returns
 unfolding Sends frame_bytes FrameOf view who_in who_as
 returns c h =
-    let says = c.before.send.ensures in
+    let says = c.send.ensures in
     let wrote = says.done (says.answered ∙ h) in
-    let column = c.before.before.before.args.column in
+    let column = c.args.column in
     let kept = ap (take (frame_size (settings_of column.who) column.round)) wrote.2 ∙ front_value wrote.0 _ _ wrote.1.1 in
     rw kept wrote.1
-
-pub sent_spec : {M : Type 1} → statement M
-sent_spec = tie.close (tie.spec (λ c. search rules) (λ c κs. search rules) returns)

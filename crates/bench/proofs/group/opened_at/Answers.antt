@@ -4,7 +4,6 @@ use mathlib.Core.List.{List}
 use mathlib.Core.Option.{Option, some}
 use Prim.Native.Nat.{ℕ, ◌+◌, ◌-◌, ◌≤◌}
 use native.Mathlib.Omega.{arith}
-use borrow.Author.Rules.{rules}
 use lib.ListN.{length, take, drop}
 use Rattle.code.specs.Settings.{Settings}
 use Rattle.record.specs.Record.{opened}
@@ -15,50 +14,34 @@ use Rattle.record.proofs.View.{view_opened}
 use Rattle.bench.specs.Group.{bench_run}
 use Rattle.bench_file.specs.Steps.Places.{PlacesOf}
 use Rattle.bench_file.proofs.Located.{bytes_at_inside, bytes_at_none, bytes_at_some, none_some}
-use Rattle.bench.proofs.group.opened_at.Statement.{statement}
-use Rattle.bench.proofs.group.opened_at.Tie as tie
+use Rattle.bench.proofs.group.opened_at.Goals as goal
+use Rattle.bench.proofs.group.opened_at.Goals.{Else-at-eq0}
 
-returns : tie.Need-returns
-returns c f v h e = let own = c.before.before in none_some (sym (bytes_at_none _ own.before.before.args.places.w _ _ (own.own_at.ensures _ f h) c.before.if1.true) ∙ e)
+pub returns-then-at-eq0 : goal.returns-then-at-eq0
+returns-then-at-eq0 c f v h e = none_some (sym (bytes_at_none _ c.args.places.w _ _ (c.own_at-at.ensures _ f h) c.if-at-eq0.true) ∙ e)
 
 -- an own value's bytes are in the file
-inside : (c : tie.Else1) → let s = c.before.before.before in c.before.own_at.result + s.args.places.w ≤ length s.args.file.now
+inside : (c : Else-at-eq0) → c.own_at-at.result + c.args.places.w ≤ length c.args.file.now
 unfolding PlacesOf
-inside c = let g = c.before.before.before.requires.0 in bytes_at_inside _ _ _ _ (c.before.own_at.ensures _ g.0 g.1) c.if1.false
+inside c = let g = c.requires.0 in bytes_at_inside _ _ _ _ (c.own_at-at.ensures _ g.0 g.1) c.if-at-eq0.false
 
-add-end : tie.Need-overflow-add-end
-add-end c = omega (arith, inside c.before)
+pub overflow_add-end : goal.overflow_add-end
+overflow_add-end c = omega (arith, inside (goal.at.overflow_add-end c).Else-at-eq0)
 
-part-open-end : tie.Need-slice-bounds-open-end
-part-open-end c = omega (arith, inside c.before)
+pub slice_bounds-open-end : goal.slice_bounds-open-end
+slice_bounds-open-end c = omega (arith, inside (goal.at.slice_bounds-open-end c).Else-at-eq0)
 
-returns-2 : tie.Need-returns-2
+pub returns : goal.returns
 unfolding bench_run
-returns-2 c f v h e =
-    let there = c.before.before.before.before in
-    let a = there.before.before.before.args in
-    let at = there.before.own_at.result in
-    let stood = bytes_at_some _ a.places.w _ _ (there.before.own_at.ensures _ f h) there.if1.false in
+returns c f v h e =
+    let a = c.args in
+    let at = c.own_at-at.result in
+    let stood = bytes_at_some _ a.places.w _ _ (c.own_at-at.ensures _ f h) c.if-at-eq0.false in
     let size : at + a.places.w - at ≡ a.places.w = omega arith in
     let whole : ◌≡◌ {A = Option (List ℕ)} (some (take (at + a.places.w - at) (drop at a.file.now))) (some v) =
     ap (λ (k : ℕ). some (take k (drop at a.file.now))) size ∙ sym stood ∙ e in
     let value : take (at + a.places.w - at) (drop at a.file.now) ≡ v = cc in
-    let made = c.before.«open».ensures in
+    let made = c.open-opened.ensures in
     let fine = made.answered ∙ ap₂ (λ (x : Settings) (u : List ℕ). open_refusal x a.number u) (sym h.settings) value ∙ h.opens a.number v e in
     ap view (made.done fine) ∙ view_opened _ _ _ _ _ _ (opens_of _ _ _ (sym made.answered ∙ fine))
     ∙ ap₂ (λ (x : Settings) (u : List ℕ). opened x a.number 0 u) (sym h.settings) value
-
-pub opened_at_spec : {M : Type 1} → statement M
-opened_at_spec =
-    tie.close
-    (tie.spec
-    (λ c κs. search rules)
-    (λ c κs. search rules)
-    returns
-    (λ c. search rules)
-    add-end
-    (λ c. search rules)
-    (λ c. search rules)
-    part-open-end
-    (λ c κs. search rules)
-    returns-2)
