@@ -86,9 +86,9 @@ takes_rest P (sending n) cs a = a
 takes_rest P closing cs a = a
 takes_rest P asking cs a = a
 
-pub takes_at : (P : ℕ → List ℕ → Type 0) (k : ℕ) (bs : List ℕ) {r z : Rec} {cs rest : List Call} → TakesOnly P cs → Passes r cs z (taking k bs ∷ rest) → P k bs
-takes_at P k bs a (here r cs) = a.0
-takes_at P k bs a (later r q z c cs rest l p) = takes_at P k bs (takes_rest P c cs a) p
+pub takes_at : (P : ℕ → List ℕ → Type 0) (k : ℕ) (bs : List ℕ) {r z : Rec} {cs rest : List Call} → Passes r cs z (taking k bs ∷ rest) → TakesOnly P cs → P k bs
+takes_at P k bs (here r cs) a = a.0
+takes_at P k bs (later r q z c cs rest l p) a = takes_at P k bs p (takes_rest P c cs a)
 
 pub takes_heard :
     (P : ℕ → List ℕ → Type 0) (heard : ℕ → Option (List ℕ)) → ((k : ℕ) (bs : List ℕ) → heard k ≡ some bs → P k bs) → (many slot : ℕ) →

@@ -117,7 +117,7 @@ module _
 
       pub fair : Fair f.settings bench_run (column l) (column k)
       unfolding HandedInTime good Sent OnlySent
-      fair = record { sends = sends; only = λ x h long same_run. takes_at OnlySent k x (taken_sent 0 3 refl) h.on refl }
+      fair = record { sends = sends; only = λ x h long same_run. takes_at OnlySent k x h.on (taken_sent 0 3 refl) refl }
         where
           sends :
               (m : ℕ) → 1 ≤ m → m ≤ 3 →
