@@ -3,7 +3,7 @@
 
 ghost use Rattle.std.specs.Prelude.{◌≤◌};
 
-use libc::STDOUT_FILENO;
+use std::io;
 
 // The product by shift and add, with nothing of the field's crate.
 fn shift_and_add(a: u8, b: u8) -> u8 {
@@ -46,7 +46,6 @@ fn all_agreeing() -> u64 {
     count
 }
 
-fn main() {
-    io::print_decimal(STDOUT_FILENO, all_agreeing());
-    io::write_all(STDOUT_FILENO, b" of 65536 products agree\n");
+fn main(rt: HostRuntime) -> io::Result<()> {
+    println!(rt; "{} of 65536 products agree", all_agreeing())
 }

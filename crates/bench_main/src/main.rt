@@ -3,15 +3,15 @@
 
 use bench::LISTING_ROOM;
 use bench_file::reading::LONGEST_FILE;
-use libc::{STDIN_FILENO, STDOUT_FILENO};
+use std::io;
 
 // One byte more than a file may have is read, and no more, so that a longer one is refused.
 const FILE_ROOM: usize = LONGEST_FILE + 1;
 
-fn main() {
+fn main(rt: HostRuntime) -> io::Result<()> {
     let mut file = [0u8; FILE_ROOM];
     let mut output = [0u8; LISTING_ROOM];
-    let got = io::read_full(STDIN_FILENO, &mut file);
+    let got = streams::read_full(&mut rt.reader(), &mut file)?;
     let size = bench::bench(&file[..got], &mut output);
-    io::write_all(STDOUT_FILENO, &output[..size]);
+    rt.write_all(&output[..size])
 }

@@ -3,18 +3,25 @@
 
 use code::sizes::{MOST_COLUMNS, VALUE_ROOM, VECTOR_ROOM};
 use level::answer::Level;
-use libc::STDIN_FILENO;
 use record::{Column, Identity};
+use std::io::{self, Read};
 use vector_file::Tally;
 
 // The record of a case, whose values come next.
-fn stored_column(n: u32, t: u32, w: u32, number: u32, round: u32) -> Column {
+fn stored_column<R: Read>(
+    input: &mut R,
+    n: u32,
+    t: u32,
+    w: u32,
+    number: u32,
+    round: u32,
+) -> io::Result<Column> {
     let mut own = [0u8; VALUE_ROOM];
     let mut values = [0u8; VECTOR_ROOM];
     let mut confidences = [0u8; MOST_COLUMNS];
-    vector_file::fill(&mut own, 8);
-    vector_file::fill(&mut values, 128);
-    vector_file::fill(&mut confidences, 32);
+    vector_file::fill(input, &mut own, 8)?;
+    vector_file::fill(input, &mut values, 128)?;
+    vector_file::fill(input, &mut confidences, 32)?;
     let mut column = record::empty();
     let who = Identity {
         n,
@@ -30,7 +37,7 @@ fn stored_column(n: u32, t: u32, w: u32, number: u32, round: u32) -> Column {
     column.who = who;
     column.found = found;
     column.round = round;
-    column
+    Ok(column)
 }
 
 // A number by its sign, which is 0 or 1, and its magnitude.
@@ -47,11 +54,11 @@ fn agree(a: Level, b: Level) -> bool {
 }
 
 // The settings, number, round and answer of a case come first, as models/vectors/levels.py lays them out.
-fn step(tally: Tally) -> Tally {
+fn step<R: Read>(input: &mut R, tally: Tally) -> io::Result<Tally> {
     let mut b = [0u8; 34];
-    let got = io::read_full(STDIN_FILENO, &mut b);
+    let got = streams::read_full(input, &mut b)?;
     if got != 34 {
-        return tally.done();
+        return Ok(tally.done());
     }
     let n = vector_file::number(b[0], b[1], b[2], b[3]);
     let t = vector_file::number(b[4], b[5], b[6], b[7]);
@@ -66,19 +73,20 @@ fn step(tally: Tally) -> Tally {
         level,
         correction,
     };
-    let column = stored_column(n, t, w, number, round);
-    tally.with(agree(level::level(column), expected))
+    let column = stored_column(input, n, t, w, number, round)?;
+    Ok(tally.with(agree(level::level(column), expected)))
 }
 
-fn main() {
+fn main(rt: HostRuntime) -> io::Result<()> {
+    let mut input = rt.reader();
     let mut tally = Tally::new();
     let mut turns = u32::MAX;
     while turns > 0 {
-        tally = step(tally);
+        tally = step(&mut input, tally)?;
         if tally.is_done {
             break;
         }
         turns -= 1;
     }
-    tally.print(b"level");
+    tally.print(&rt, b"level")
 }

@@ -2,20 +2,21 @@
 // the lent output.
 #![tactic(auto)]
 
+use std::io::{self, Read};
 use vector_file::Tally;
 
-fn step(tally: Tally) -> Tally {
-    let r = vector_file::next();
+fn step<R: Read>(input: &mut R, tally: Tally) -> io::Result<Tally> {
+    let r = vector_file::next(input)?;
     if !r.is_there {
-        return tally.done();
+        return Ok(tally.done());
     }
     let mut vector = [0u8; 512];
     let mut checks = [0u8; 512];
     let mut expected = [0u8; 512];
     let mut output = [0u8; 512];
-    let length = vector_file::fill(&mut vector, r.vector);
-    let many = vector_file::fill(&mut checks, r.checks);
-    let filled = vector_file::fill(&mut expected, r.filled);
+    let length = vector_file::fill(input, &mut vector, r.vector)?;
+    let many = vector_file::fill(input, &mut checks, r.checks)?;
+    let filled = vector_file::fill(input, &mut expected, r.filled)?;
     let room = vector_file::prepare(&mut output, r.room);
     let repaired = repair::repair(
         r.n,
@@ -26,18 +27,19 @@ fn step(tally: Tally) -> Tally {
         &mut output[..room],
     );
     let is_filled = vector_file::is_filled(&output, &expected[..filled]);
-    tally.with(repaired.answer == r.answer && is_filled)
+    Ok(tally.with(repaired.answer == r.answer && is_filled))
 }
 
-fn main() {
+fn main(rt: HostRuntime) -> io::Result<()> {
+    let mut input = rt.reader();
     let mut tally = Tally::new();
     let mut turns = u32::MAX;
     while turns > 0 {
-        tally = step(tally);
+        tally = step(&mut input, tally)?;
         if tally.is_done {
             break;
         }
         turns -= 1;
     }
-    tally.print(b"repair");
+    tally.print(&rt, b"repair")
 }

@@ -2,15 +2,17 @@
 // the output lent to it. models/vectors/make.c says how a record is laid out.
 #![tactic(auto)]
 
-ghost use Rattle.std.specs.Prelude.{◌≡◌, ◌≤◌};
-ghost use Rattle.io.specs.Counts.{IsPrefixLen};
+ghost use Rattle.std.specs.Prelude.{◌≡◌, ◌≤◌, ℕ, List, drop, OnErr};
+ghost use Rattle.std.specs.Counts.{IsPrefixLen};
+ghost use Rattle.std.specs.Io.{ReadsAtMost};
+ghost use Rattle.std.specs.Io.KnownBytes.{Consumes};
 
-use libc::{STDIN_FILENO, STDOUT_FILENO};
+use std::io::{self, Read};
 use std::num::wrapping_add_u64;
 
 // The settings and lengths of a record, and the answer that is expected. The first `filled` bytes of the output are
 // expected to change, and no others. At the end of the input there is none.
-#[derive(Drop)]
+#[derive(Clone, Copy)]
 pub struct Record {
     pub is_there: bool,
     pub n: u32,
@@ -24,7 +26,7 @@ pub struct Record {
 }
 
 // How many records were read and how many differ, and the number of the first that does.
-#[derive(Drop)]
+#[derive(Clone, Copy)]
 pub struct Tally {
     pub read: u64,
     pub differ: u64,
@@ -60,20 +62,15 @@ impl Tally {
     }
 
     // Writes a line that names the call.
-    pub fn print(self, call: &[u8]) {
-        io::write_all(STDOUT_FILENO, call);
-        io::write_all(STDOUT_FILENO, b": ");
+    pub fn print<P: Print>(self, to: &P, call: &[u8]) -> io::Result<()> {
+        to.write_all(call)?;
         if self.differ == 0 {
-            io::print_decimal(STDOUT_FILENO, self.read);
-            io::write_all(STDOUT_FILENO, b" vectors agree\n");
-            return;
+            return println!(to; ": {} vectors agree", self.read);
         }
-        io::print_decimal(STDOUT_FILENO, self.differ);
-        io::write_all(STDOUT_FILENO, b" of ");
-        io::print_decimal(STDOUT_FILENO, self.read);
-        io::write_all(STDOUT_FILENO, b" vectors differ, the first is number ");
-        io::print_decimal(STDOUT_FILENO, self.first);
-        io::write_all(STDOUT_FILENO, b"\n");
+        println!(to;
+            ": {} of {} vectors differ, the first is number {}",
+            self.differ, self.read, self.first
+        )
     }
 }
 
@@ -96,11 +93,13 @@ fn count(high: u8, low: u8) -> usize {
     pair(high, low) as usize
 }
 
-// The settings and lengths that come next.
-pub fn next() -> Record {
+// The settings and lengths that come next. The only error is that of a read, as in `streams::read_full`.
+pub fn next<R: Read>(input: &mut R) -> io::Result<Record>
+    ensures { OnErr result ((bs : List ℕ) × Consumes (R.remaining input.old) (R.remaining input.new) bs) }
+{
     let mut b = [0u8; 22];
-    let got = io::read_full(STDIN_FILENO, &mut b);
-    Record {
+    let got = streams::read_full(input, &mut b)?;
+    Ok(Record {
         is_there: got == 22,
         n: number(b[0], b[1], b[2], b[3]),
         t: number(b[4], b[5], b[6], b[7]),
@@ -110,20 +109,24 @@ pub fn next() -> Record {
         room: count(b[16], b[17]),
         answer: pair(b[18], b[19]),
         filled: count(b[20], b[21]),
-    }
+    })
 }
 
-// Puts so many bytes of the input in front of a buffer, and answers how many it had room for.
-pub fn fill(buffer: &mut [u8], many: usize) -> usize
-    ensures { IsPrefixLen result buffer.new }
+// Puts so many bytes of the input in front of a buffer, and answers how many it had room for. The only error is that of
+// a read, as in `streams::read_full`. The bytes past those that were asked for are kept, whatever comes.
+pub fn fill<R: Read>(input: &mut R, buffer: &mut [u8], many: usize) -> io::Result<usize>
+    ensures count { ReadsAtMost result buffer.new }
+    ensures kept { drop many buffer.new ≡ drop many buffer.old }
+    ensures err { OnErr result ((bs : List ℕ) × Consumes (R.remaining input.old) (R.remaining input.new) bs) }
 {
     let n = least(many, buffer.len());
-    io::read_full(STDIN_FILENO, &mut buffer[..n]);
-    n
+    streams::read_full(input, &mut buffer[..n])?;
+    Ok(n)
 }
 
 fn least(a: usize, b: usize) -> usize
-    ensures { result ≤ b }
+    ensures first { result ≤ a }
+    ensures second { result ≤ b }
 {
     if a < b { a } else { b }
 }
