@@ -5,11 +5,9 @@
 #     sh tests/bench.sh [COUNT]       2,000 files where no other number is given
 set -eu
 cd "$(dirname "$0")/.."
-program=target/bin/bench_main
-if ! [ -x $program ]; then
-    echo "$program is missing: rt check bench_main builds it" >&2
-    exit 1
-fi
+. tests/shared/build.sh
+program=crates/bench_main/out/bench_main
+proved_program bench_main
 sh tests/bench/build.sh
 for listing in examples/*.listing; do
     $program <"${listing%.listing}.bench" | cmp - "$listing"

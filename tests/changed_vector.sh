@@ -2,14 +2,11 @@
 # The programs that run stored vectors see one that is wrong: with one byte of the last vector changed, each names that vector.
 set -eu
 cd "$(dirname "$0")/.."
-mkdir -p target/tests
+. tests/shared/build.sh
 
 names_the_last() { # PROGRAM COUNT WHAT BEHIND: so many bytes stand behind the one that is changed
-    program=target/bin/$1
-    if ! [ -x "$program" ]; then
-        echo "$program is missing: rt check $1 builds it" >&2
-        exit 1
-    fi
+    proved_program "$1"
+    program=crates/$1/out/$1
     stored=crates/$1/stdin
     changed=target/tests/$1.changed
     byte=$(tail -c $(($4 + 1)) "$stored" | head -c 1 | od -An -tu1)

@@ -1,12 +1,21 @@
-# How the tests build their programs: against the archive of the proved calls, for release.
+# How the tests build what they run: the archive of the proved calls and the proved programs by rt, and programs against the archive, for
+# release.
 
-archive() { # target/staticlib/libsajowemi.a, proved anew where a crate is newer than it
+proved() { # CRATE VERB INPUT MADE: MADE in the crate's folder, by `rt VERB` where it is missing or a crate is newer than it
     mkdir -p target/tests
-    made=target/staticlib/libsajowemi.a
-    if [ -e "$made" ] && [ -z "$(find crates crates.txt -newer "$made" -print -quit)" ]; then
+    made=crates/$1/$4
+    if [ -e "$made" ] && [ -z "$(find crates.txt crates/*/* -name out -prune -o -newer "$made" -print -quit)" ]; then
         return
     fi
-    rt staticlib sajowemi >target/tests/archive.log 2>&1 || { cat target/tests/archive.log; return 1; }
+    (cd "crates/$1" && rt "$2" <"$3" && touch "$4") >"target/tests/$1.log" 2>&1 || { cat "target/tests/$1.log"; return 1; }
+}
+
+archive() { # crates/sajowemi/out/libsajowemi.a
+    proved sajowemi lib /dev/null out/libsajowemi.a
+}
+
+proved_program() { # NAME: crates/NAME/out/NAME, which is run on the crate's stdin as it is built
+    proved "$1" run stdin "out/$1"
 }
 
 needs() { # COMMAND PACKAGE: installs the Debian package where the command is missing
@@ -20,7 +29,7 @@ rust() { # SOURCE OUTPUT OPTION..
     source=$1
     output=$2
     shift 2
-    rustc --edition 2024 -C opt-level=3 -C codegen-units=1 -L native=target/staticlib "$@" -o "$output" "$source"
+    rustc --edition 2024 -C opt-level=3 -C codegen-units=1 -L native=crates/sajowemi/out "$@" -o "$output" "$source"
 }
 
 rust_crate() { # target/tests/libsajowemi.rlib, the safe crate
@@ -37,7 +46,7 @@ c_program() { # SOURCE OUTPUT OPTION..
     source=$1
     output=$2
     shift 2
-    gcc -std=c11 -O2 -g -Wall -Wextra -Werror -Iinclude "$@" -o "$output" "$source" target/staticlib/libsajowemi.a
+    gcc -std=c11 -O2 -g -Wall -Wextra -Werror -Iinclude "$@" -o "$output" "$source" crates/sajowemi/out/libsajowemi.a
 }
 
 stored_lines() { # LINES PAGE: whether every line of a table that was printed stands in the page, in order and with nothing between
