@@ -1,6 +1,6 @@
 #!/usr/bin/env bash
-# Passes all tests: the proofs, the must-fail edits and the programs by `rt ci`, and whatever stands in tests/. A bad must-fail edit fails too.
-# The last line is 'N passed, 0 failed' where all of them pass, and the exit status is 0 only then.
+# Passes all tests: the proofs, the must-fail edits and the programs by `rt ci`, and whatever stands in tests/. The last line is
+# 'N passed, 0 failed' where all of them pass and no must-fail edit is bad, and the exit status is 0 only then.
 set -u
 cd "$(dirname "$0")" || exit 1
 passed=0

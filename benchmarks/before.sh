@@ -1,10 +1,10 @@
 #!/bin/sh
 # Repair and the calls of a column of an older state beside this one's, in one run on one machine, case by case (repair/before.rs,
-# calls/before.rs). The older state is one from Ask 6 of the change requests on, whose record is today's:
+# calls/before.rs). The older state is one from Ask 6 of the change requests on, whose record is today's, that the installed Rattle builds:
 #
 #     git worktree add ../before COMMIT
-#     (cd ../before && rt staticlib sajowemi)
-#     sh benchmarks/before.sh ../before/target/staticlib/libsajowemi.a
+#     (cd ../before/crates/sajowemi && rt lib)
+#     sh benchmarks/before.sh ../before/crates/sajowemi/out/libsajowemi.a
 #
 # Its calls are linked under other names, in a copy of the safe crate that calls them by these, and what else it has is hidden, which takes
 # an archive of one object.

@@ -4,9 +4,10 @@
 #     sh benchmarks/run.sh [--store] [OLDER_ARCHIVE]
 #
 # repair and check values beside linear equations in Rust and libfec (Debian's libfec-dev, installed where it is missing), which must answer
-# alike; the calls of a column; how they grow with the group beside a plain Rust column; bytes on the air; stack use, sizes, and the times of
-# the last check; and with an older archive of one object the same calls before and after (before.sh). With --store the growth is written to
-# docs/cost_growth.tsv and its picture drawn anew. All is built for release, for any x86-64 processor.
+# alike; the calls of a column; how they grow with the group beside a plain Rust column; bytes on the air; stack use, sizes, and the seconds
+# that each crate's check takes where nothing of it is kept; and with an older archive of one object the same calls before and after
+# (before.sh). With --store the growth is written to docs/cost_growth.tsv and its picture drawn anew. All is built for release, for any
+# x86-64 processor.
 set -eu
 store=no
 if [ "${1-}" = --store ]; then
@@ -50,13 +51,20 @@ echo
 c_program benchmarks/calls/stack.c target/tests/stack_use
 target/tests/stack_use
 echo
-echo "The archive has $(wc -c <target/staticlib/libsajowemi.a) bytes."
+echo "The archive has $(wc -c <crates/sajowemi/out/libsajowemi.a) bytes."
 echo
-echo "| Crate | Seconds of its last check |"
+# Each crate stands over those before it, which are built by then. What another checkout on this machine keeps of a crate, rt begins with.
+echo "| Crate | Seconds of its check |"
 echo "|---|---|"
-for log in target/log/*.out; do
-    [ -e "$log" ] || continue
-    sed -n 's/^rt: \([a-z_]*\) proved (\([0-9]*\) s)$/| \1 | \2 |/p' "$log"
+in_crate() { # CRATE VERB
+    (cd "crates/$1" && rt "$2") </dev/null >"target/tests/$1.log" 2>&1 || { cat "target/tests/$1.log"; return 1; }
+}
+sed -n 's/^\([a-z_]*\)[ :].*/\1/p' crates.txt | while read -r crate; do
+    rm -rf "crates/$crate/out/incremental"
+    begun=$(date +%s)
+    in_crate "$crate" check
+    echo "| $crate | $(($(date +%s) - begun)) |"
+    [ -e "crates/$crate/src/main.rt" ] || in_crate "$crate" lib
 done
 if [ -n "$older" ]; then
     echo

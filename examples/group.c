@@ -1,8 +1,8 @@
 /* Four columns, one of which lies: what the good ones believe at the end, how far off they found each other, and whose frames were
  * refused.
  *
- *     rt staticlib sajowemi
- *     gcc -Iinclude -o target/group examples/group.c target/staticlib/libsajowemi.a && target/group
+ *     (cd crates/sajowemi && rt lib) && mkdir -p target
+ *     gcc -Iinclude -o target/group examples/group.c crates/sajowemi/out/libsajowemi.a && target/group
  */
 #include "sajowemi.h"
 #include <stdio.h>

@@ -1,7 +1,7 @@
 //! Four columns, one of which lies: what the good ones believe at the end, how far off they found each other, and whose frames were
 //! refused.
 //!
-//!     rt staticlib sajowemi
+//!     (cd crates/sajowemi && rt lib)
 //!     cd rust && cargo run --example group
 
 use sajowemi::{Column, LONGEST_FRAME, Refusal, Settings, Told};

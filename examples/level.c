@@ -1,8 +1,8 @@
 /* Four columns on a truck repeat the exchange until the good ones stand level, though the fourth's radio reaches only some of them: whom
  * each holds for blank, what it takes for the level, how far it goes, and how far apart the good ones stand then.
  *
- *     rt staticlib sajowemi
- *     gcc -Iinclude -o target/level examples/level.c target/staticlib/libsajowemi.a && target/level
+ *     (cd crates/sajowemi && rt lib) && mkdir -p target
+ *     gcc -Iinclude -o target/level examples/level.c crates/sajowemi/out/libsajowemi.a && target/level
  */
 #include "sajowemi.h"
 #include <stdbool.h>

@@ -1,7 +1,7 @@
 //! Four columns on a truck repeat the exchange until the good ones stand level, though the fourth's radio reaches only some of them: whom
 //! each holds for blank, what it takes for the level, how far it goes, and how far apart the good ones stand then.
 //!
-//!     rt staticlib sajowemi
+//!     (cd crates/sajowemi && rt lib)
 //!     cd rust && cargo run --example level
 
 use sajowemi::{Column, LONGEST_FRAME, Level, Refusal, Settings};

@@ -1,8 +1,8 @@
 /* Repair by itself: the values that a column has of four, two bytes each, repaired by the check values that a neighbour has sent, and how
  * far the search for wrong places went in each of the two byte planes.
  *
- *     rt staticlib sajowemi
- *     gcc -Iinclude -o target/repair examples/repair.c target/staticlib/libsajowemi.a && target/repair
+ *     (cd crates/sajowemi && rt lib) && mkdir -p target
+ *     gcc -Iinclude -o target/repair examples/repair.c crates/sajowemi/out/libsajowemi.a && target/repair
  */
 #include "sajowemi.h"
 #include <stdio.h>

@@ -1,7 +1,7 @@
 //! Repair by itself: the values that a column has of four, two bytes each, repaired by the check values that a neighbour has sent, and how
 //! far the search for wrong places went in each of the two byte planes.
 //!
-//!     rt staticlib sajowemi
+//!     (cd crates/sajowemi && rt lib)
 //!     cd rust && cargo run --example repair
 
 use sajowemi::{Refusal, Repair, Settings, check_values, repair};

@@ -1,7 +1,7 @@
 /* The proved radio link of mobile column lifts: one column's part in the exchange, and the code beneath it.
  *
- * Link with libsajowemi.a, which `rt staticlib sajowemi` writes to target/staticlib, for x86-64 Linux. The calls keep no state, take no
- * memory of their own and may be called from any thread. Each answers every input: 0, or the number of the refusal.
+ * Link with libsajowemi.a, which `rt lib` in crates/sajowemi writes to crates/sajowemi/out, for x86-64 Linux. The calls keep no state,
+ * take no memory of their own and may be called from any thread. Each answers every input: 0, or the number of the refusal.
  *
  * A record's bits may be anything: each call checks it again. The calls of the archive take it by value and hand it back in the outcome;
  * the `sajowemi_column_` calls below them change it in place. Of a refusal the record comes back as it was, but for the slot's count of

@@ -1,6 +1,6 @@
 //! The proved radio link of mobile column lifts: a column's part in the exchange, and the code beneath it. Safe calls over the archive
-//! that `rt staticlib sajowemi` writes; nothing here needs the standard library or memory of its own. The archive's calls want buffers
-//! that do not overlap, which Rust's borrows see to: a vector is not repaired over itself.
+//! that `rt lib` writes in `crates/sajowemi`; nothing here needs the standard library or memory of its own. The archive's calls want
+//! buffers that do not overlap, which Rust's borrows see to: a vector is not repaired over itself.
 //!
 //! ```ignore
 //! let mut column = Column::open(Settings { n: 4, t: 1, w: 4 }, 2, run, &height)?;
