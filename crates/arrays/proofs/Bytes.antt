@@ -43,9 +43,9 @@ pub bytes_reverse : (us : List ℕ) → Bytes us → Bytes (reverse us)
 bytes_reverse [] b = tt
 bytes_reverse (u ∷ us) b = rw reverse-cons (bytes_append (reverse us) (u ∷ []) (bytes_reverse us b.1) (b.0, tt))
 
-pub get_d_reverse : (l : List ℕ) (i : ℕ) → i < length l → get_or (reverse l) i 0 ≡ get_or l (length l - 1 - i) 0
-get_d_reverse [] i h = absurd (omega arith)
-get_d_reverse (x ∷ l) i h = rw (reverse-cons x l) (go (dec_lt i (length l)) (get_d_reverse l i))
+pub get_or_reverse : (l : List ℕ) (i : ℕ) → i < length l → get_or (reverse l) i 0 ≡ get_or l (length l - 1 - i) 0
+get_or_reverse [] i h = absurd (omega arith)
+get_or_reverse (x ∷ l) i h = rw (reverse-cons x l) (go (dec_lt i (length l)) (get_or_reverse l i))
   where
     go : Dec (i < length l) → (i < length l → get_or (reverse l) i 0 ≡ get_or l (length l - 1 - i) 0) → get_or (reverse l ++ (x ∷ [])) i 0 ≡ get_or (x ∷ l) (length (x ∷ l) - 1 - i) 0
     go (yes a) f =

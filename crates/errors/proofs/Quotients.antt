@@ -118,12 +118,12 @@ first_told_lt rows sums p h = go (eqb (get_or rows (row_width + p) 0) 0)
 
 -- both polynomials' values, divided
 pub fraction_put :
-    (size e twice at : ℕ) (numerators slopes IsAboveBefore above below_before below marks weighted : List ℕ) → power 2 twice ≡ power 2 (e + e) →
-    Written 0 row_width (λ p. eval (lane p size numerators) (power 2 e)) IsAboveBefore above →
+    (size e twice at : ℕ) (numerators slopes above_before above below_before below marks weighted : List ℕ) → power 2 twice ≡ power 2 (e + e) →
+    Written 0 row_width (λ p. eval (lane p size numerators) (power 2 e)) above_before above →
     Written 0 row_width (λ p. eval (lane p ((size + 1) / 2) slopes) (power 2 twice)) below_before below →
     ErrorsPut value_room at (λ p. times (get_or above p 0) (inverse (get_or below p 0))) marks weighted →
     ErrorsPut value_room at (λ p. fraction numerators slopes size p e) marks weighted
-fraction_put size e twice at numerators slopes IsAboveBefore above below_before below marks weighted q a b w =
+fraction_put size e twice at numerators slopes above_before above below_before below marks weighted q a b w =
     put_as value_room at _ _ marks weighted
     (λ p h.
     ap₂ (λ (y z : ℕ). times y (inverse z)) (at_start p above ∙ a.new p (omega arith))

@@ -15,7 +15,7 @@ use Rattle.code.specs.Plane.{is_codeword}
 use Rattle.code.specs.Vector.{plane, cut}
 use Rattle.code.specs.Entry.{values_in, ChecksPut}
 use Rattle.code.specs.Steps.Windows.{window, taken_in, FeedbackOf, Divided, Stored}
-use Rattle.arrays.proofs.Bytes.{Bytes, bytes_drop, get_d_reverse}
+use Rattle.arrays.proofs.Bytes.{Bytes, bytes_drop, get_or_reverse}
 use Rattle.code.proofs.Polynomials.Generator.{root_lt}
 use Rattle.code.proofs.ValidSettings.{Sizes, sizes}
 use Rattle.code.proofs.Vectors.Planes.{plane_bytes, checked_back}
@@ -41,7 +41,7 @@ module _ (n count size p : ℕ) (windows out now : List ℕ) (inside : p < size)
       at c l =
           plane_cut count size p now c l inside ∙ d.value c p l inside
           ∙ sym (window_at p (n + count) windows (omega arith) narrow long (n + count - 1 - c) (omega arith))
-          ∙ sym (get_d_reverse rest c (omega (arith, rest_length)) ∙ get_or-drop n (window p (n + count) windows) (length rest - 1 - c) 0
+          ∙ sym (get_or_reverse rest c (omega (arith, rest_length)) ∙ get_or-drop n (window p (n + count) windows) (length rest - 1 - c) 0
           ∙ ap (λ (k : ℕ). get_or (window p (n + count) windows) k 0) (let e : n + (length rest - 1 - c) ≡ n + count - 1 - c = omega (arith, rest_length) in e))
 
 -- when all columns were taken in none is to come

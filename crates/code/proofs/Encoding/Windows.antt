@@ -10,7 +10,7 @@ use native.Mathlib.Decide.{dec_lt}
 use lib.ListN.{length, get_or, take, drop, length-drop, length-reverse, get_or-eq_default}
 use lib.Seq.{length-take-le, get_or-take}
 use Rattle.arrays.specs.Array.{all_zero}
-use Rattle.arrays.proofs.Bytes.{Bytes, byte_at, bytes_every, bytes_take, bytes_drop, bytes_reverse, get_d_reverse}
+use Rattle.arrays.proofs.Bytes.{Bytes, byte_at, bytes_every, bytes_take, bytes_drop, bytes_reverse, get_or_reverse}
 use Rattle.arrays.proofs.Part.{part_lent}
 use Rattle.arrays.proofs.Zeros.{zero_at}
 use Rattle.field.specs.Field.{plus, times, power}
@@ -52,7 +52,7 @@ pub comes_next :
     (n size s p : ℕ) (vector : List ℕ) → s < n → p < size → get_or (taken_in n size p vector) s 0 ≡ get_or vector ((n - 1 - s) * size + p) 0
 comes_next n size s p vector h l =
     let long = plane_cut_length p n size vector in
-    get_d_reverse (plane p (cut n size vector)) s (omega arith)
+    get_or_reverse (plane p (cut n size vector)) s (omega arith)
     ∙ ap (λ (k : ℕ). get_or (plane p (cut n size vector)) k 0) (let e : length (plane p (cut n size vector)) - 1 - s ≡ n - 1 - s = omega arith in e)
     ∙ plane_cut n size p vector (n - 1 - s) (omega arith) l
 
