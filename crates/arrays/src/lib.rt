@@ -4,21 +4,18 @@
 ghost use Rattle.std.specs.Prelude.{◌≡◌, ◌+◌, ◌*◌, ◌≤◌, ◌<◌, length, get_or};
 ghost use Rattle.arrays.specs.Array.{Written, all_zero};
 
-// The widths that the machine moves in one step: a word, and half a word. Values of eight and of four bytes have them.
+// The widths that the machine moves in one step: a word, and half a word. Values of eight and of four bytes have them, and another number
+// is a call of memmove.
 const WORD: usize = 8;
 
 const HALF_WORD: usize = 4;
 
-// Byte after byte, which compiles to one step where the caller names the number.
+// A copy that compiles to one step where the caller names the number.
 fn copy_bytes(to: &mut [u8], at: usize, from: &[u8], start: usize, many: usize)
     requires { (at + many ≤ length to.old) × (start + many ≤ length from.now) }
     ensures { Written at many (λ p. get_or from.now (start + p) 0) to.old to.new }
 {
-    let mut p = 0;
-    while p < many {
-        to[at + p] = from[start + p];
-        p += 1;
-    }
+    to[at..at + many].copy_from_slice(&from[start..start + many]);
 }
 
 // So many bytes from a place on go to a place of another array.
@@ -26,15 +23,11 @@ pub fn copy(to: &mut [u8], at: usize, from: &[u8], start: usize, many: usize)
     requires { (at + many ≤ length to.old) × (start + many ≤ length from.now) }
     ensures { Written at many (λ p. get_or from.now (start + p) 0) to.old to.new }
 {
-    if many == WORD {
-        copy_bytes(to, at, from, start, WORD);
-        return;
+    match many {
+        WORD => copy_bytes(to, at, from, start, WORD),
+        HALF_WORD => copy_bytes(to, at, from, start, HALF_WORD),
+        _ => copy_bytes(to, at, from, start, many),
     }
-    if many == HALF_WORD {
-        copy_bytes(to, at, from, start, HALF_WORD);
-        return;
-    }
-    copy_bytes(to, at, from, start, many);
 }
 
 // Byte p of each of so many rows, which are `width` bytes each, goes to the front of another array.
@@ -42,10 +35,8 @@ pub fn gather(to: &mut [u8], rows: &[u8], width: usize, p: usize, many: usize)
     requires { (many ≤ length to.old) × (p < width) × (width * many ≤ length rows.now) }
     ensures { Written 0 many (λ j. get_or rows.now (width * j + p) 0) to.old to.new }
 {
-    let mut j = 0;
-    while j < many {
+    for j in 0..many {
         to[j] = rows[width * j + p];
-        j += 1;
     }
 }
 
@@ -54,10 +45,8 @@ pub fn is_zero(bytes: &[u8]) -> bool
     ensures { result ≡ all_zero bytes.now }
 {
     let mut any = 0;
-    let mut i = 0;
-    while i < bytes.len() {
-        any |= bytes[i];
-        i += 1;
+    for byte in bytes {
+        any |= *byte;
     }
     any == 0
 }

@@ -13,7 +13,7 @@ abbrev pub line_room : ℕ
 line_room = 2 + most_columns * 36 + 1
 
 -- room for every listing: 14 bytes for the settings, and the lines
-unfoldable pub listing_room : ℕ
+abbrev pub listing_room : ℕ
 listing_room = 14 + most_columns * line_room
 
 -- the output for what a file comes to: "refused N" and nothing else, or the listing of the group's run

@@ -1,4 +1,3 @@
 -- What the steps of the program compute: a reader of the promises needs none of it.
-pub mod Printing
 pub mod Finished
 pub mod Running

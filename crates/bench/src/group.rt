@@ -3,7 +3,7 @@ ghost use Rattle.std.specs.Prelude.{◌≡◌, List, ◌++◌, ℕ, ◌+◌, ◌
 ghost use Rattle.std.proofs.Math.Option.{some};
 ghost use Rattle.code.specs.Size.{most_columns, checks_room};
 ghost use Rattle.grading.specs.Value.{Value};
-ghost use Rattle.record.specs.Frame.{header_size, header, longest_frame};
+ghost use Rattle.record.specs.Frame.{header_size, header};
 ghost use Rattle.record.specs.Record.{opened as «opened_as»};
 ghost use Rattle.column.specs.Call.{after_take, Run};
 ghost use Rattle.record.specs.View.{view};
@@ -13,8 +13,6 @@ ghost use Rattle.bench_file.specs.Steps.Places.{MessageRange, Located, PlacesOf}
 ghost use Rattle.bench.specs.Steps.Finished.{record_of};
 ghost use Rattle.bench.specs.Steps.Running.{AfterHearing, frame_bytes, Sends, frame_at, RoundRun, GroupRan};
 
-use crate::printing;
-use bench_file::places;
 use bench_file::places::Places;
 use code::sizes::MOST_COLUMNS;
 use record::{Column, HEADER, LONGEST_FRAME, frames};
@@ -22,38 +20,32 @@ use record::{Column, HEADER, LONGEST_FRAME, frames};
 // The run number of every frame.
 const BENCH_RUN: u16 = 0;
 
-// The record of a column, opened with its own value.
-fn opened_at(file: &[u8], places: Places, number: u32) -> Column
-    requires { PlacesOf file.now places × (1 ≤ number) × (number ≤ most_columns) }
-    ensures { (f : Scenario) (v : Value) → Located file.now places f → own_of f.owns number ≡ some v → view result ≡ opened_as f.settings number bench_run v }
+// The record of a column, opened with its own value. The file stands beside its places: what ties them is said of a scenario that no code
+// holds, which a ghost field cannot say.
+fn opened_at(file: &[u8], places: &Places, number: u32) -> Column
+    requires { PlacesOf file.now places.now × (1 ≤ number) × (number ≤ most_columns) }
+    ensures { (f : Scenario) (v : Value) → Located file.now places.now f → own_of f.owns number ≡ some v → view result ≡ opened_as f.settings number bench_run v }
 {
-    let at = places::own_at(places, number);
-    if at == 0 {
+    let Some(at) = places.own(number) else {
         return record::empty();
+    };
+    let group = places.settings;
+    let own = &file[at..at + group.size()];
+    match column::open(group.n, group.t, group.w, number, BENCH_RUN, own) {
+        Ok(column) => column,
+        Err(_) => record::empty(),
     }
-    let end = at + places.w as usize;
-    let opened = column::open(
-        places.n,
-        places.t,
-        places.w,
-        number,
-        BENCH_RUN,
-        &file[at..end],
-    );
-    opened.column
 }
 
-fn opened(file: &[u8], places: Places) -> [Column; MOST_COLUMNS]
-    requires { PlacesOf file.now places }
-    ensures { (f : Scenario) (k : ℕ) (v : Value) → Located file.now places f → own_of f.owns k ≡ some v → record_of result k ≡ opened_as f.settings k bench_run v }
+fn opened(file: &[u8], places: &Places) -> [Column; MOST_COLUMNS]
+    requires { PlacesOf file.now places.now }
+    ensures { (f : Scenario) (k : ℕ) (v : Value) → Located file.now places.now f → own_of f.owns k ≡ some v → record_of result k ≡ opened_as f.settings k bench_run v }
 {
     let none = record::empty();
     let mut columns = [none; MOST_COLUMNS];
-    let mut number = 1;
-    while number <= places.n {
-        let k = (number - 1) as usize;
-        columns[k] = opened_at(file, places, number);
-        number += 1;
+    // Here and below a range ends before n + 1: of one that includes n, the proof would show the last turn apart.
+    for number in 1..places.settings.n + 1 {
+        columns[(number - 1) as usize] = opened_at(file, places, number);
     }
     columns
 }
@@ -65,28 +57,26 @@ pub struct Frame {
 }
 
 // The frame of a column's round.
-fn sent(column: Column) -> Frame
-    ensures { Sends (view column) result }
+fn sent(column: &Column) -> Frame
+    ensures { Sends (view column.now) result }
 {
     let mut bytes = [0u8; LONGEST_FRAME];
-    column::send(column, &mut bytes);
+    // A bad column's record is refused, and nobody hears what stands here for its frame.
+    let _ = column::send(column, &mut bytes);
     Frame { bytes }
 }
 
-fn all_sent(n: u32, columns: [Column; MOST_COLUMNS]) -> [Frame; MOST_COLUMNS]
+fn all_sent(n: u32, columns: &[Column; MOST_COLUMNS]) -> [Frame; MOST_COLUMNS]
     requires { n ≤ most_columns }
-    ensures { (k : ℕ) → 1 ≤ k → k ≤ n → Sends (record_of columns k) (frame_at result k) }
+    ensures { (k : ℕ) → 1 ≤ k → k ≤ n → Sends (record_of columns.now k) (frame_at result k) }
 {
     let none = Frame {
         bytes: [0u8; LONGEST_FRAME],
     };
     let mut frames = [none; MOST_COLUMNS];
-    let mut number = 1;
-    while number <= n {
+    for number in 1..n + 1 {
         let k = (number - 1) as usize;
-        let column = columns[k];
-        frames[k] = sent(column);
-        number += 1;
+        frames[k] = sent(&columns[k]);
     }
     frames
 }
@@ -98,102 +88,94 @@ fn framed(round: u32, from: u32, operand: &[u8]) -> Frame
 {
     let mut bytes = [0u8; LONGEST_FRAME];
     frames::put_header(round, from, BENCH_RUN, &mut bytes);
-    printing::put_bytes(&mut bytes, HEADER, operand);
+    arrays::copy(&mut bytes, HEADER, operand, 0, operand.len());
     Frame { bytes }
 }
 
-// The record after taking a frame that stands in front of an array.
-fn after_taking(column: Column, slot: u32, frame: Frame, size: usize) -> Column
-    requires { size ≤ longest_frame }
-    ensures { view result ≡ after_take (view column) slot (take size frame.bytes) }
+// Takes a frame; the record counts it where it is refused.
+fn take(column: &mut Column, slot: u32, frame: &[u8])
+    ensures { view column.new ≡ after_take (view column.old) slot frame.now }
 {
-    let bytes = frame.bytes;
-    let taken = column::take(column, slot, &bytes[..size]);
-    taken.column
+    let _ = column::take(column, slot, frame);
 }
 
-// The record after what the column hears in a slot.
-fn heard_at(
+// What the column hears in a slot.
+fn hear(
     file: &[u8],
-    places: Places,
+    places: &Places,
     round: u32,
-    frame: Frame,
+    frame: &Frame,
     slot: u32,
     to: u32,
-    column: Column,
-) -> Column
-    requires { PlacesOf file.now places × MessageRange round slot to }
-    ensures { (f : Scenario) (frames : ℕ → List ℕ) → Located file.now places f → frames slot ≡ frame_bytes f.settings round frame → AfterHearing slot (heard_in f frames round to slot) (view column) (view result) }
+    column: &mut Column,
+)
+    requires { PlacesOf file.now places.now × MessageRange round slot to }
+    ensures { (f : Scenario) (frames : ℕ → List ℕ) → Located file.now places.now f → frames slot ≡ frame_bytes f.settings round frame.now → AfterHearing slot (heard_in f frames round to slot) (view column.old) (view column.new) }
 {
     if slot == to {
-        return column;
+        return;
     }
-    let size = frames::operand_size(places.t, places.w, round);
-    if places::is_good(places, slot) {
-        return after_taking(column, slot, frame, HEADER + size);
+    let size = frames::operand_size(places.settings.t, places.settings.w, round);
+    if places.is_good(slot) {
+        take(column, slot, &frame.bytes[..HEADER + size]);
+        return;
     }
-    let at = places::message_at(places, round, slot, to);
-    if at == 0 {
-        return column;
-    }
-    let end = at + size;
-    let message = framed(round, slot, &file[at..end]);
-    after_taking(column, slot, message, HEADER + size)
+    let Some(at) = places.message(round, slot, to) else {
+        return;
+    };
+    let message = framed(round, slot, &file[at..at + size]);
+    take(column, slot, &message.bytes[..HEADER + size]);
 }
 
-// The record after a round in which these frames were sent.
-fn after_round(
+// A round in which these frames were sent.
+fn finish_round(
     file: &[u8],
-    places: Places,
+    places: &Places,
     round: u32,
-    frames: [Frame; MOST_COLUMNS],
+    frames: &[Frame; MOST_COLUMNS],
     to: u32,
-    column: Column,
-) -> Column
-    requires { PlacesOf file.now places × (1 ≤ round) × (round ≤ 3) × (1 ≤ to) × (to ≤ most_columns) }
-    ensures { (f : Scenario) → Located file.now places f → Run (view column) (round_calls f (λ k. frame_bytes f.settings round (frame_at frames k)) round to) (view result) }
+    column: &mut Column,
+)
+    requires { PlacesOf file.now places.now × (1 ≤ round) × (round ≤ 3) × (1 ≤ to) × (to ≤ most_columns) }
+    ensures { (f : Scenario) → Located file.now places.now f → Run (view column.old) (round_calls f (λ k. frame_bytes f.settings round (frame_at frames.now k)) round to) (view column.new) }
 {
-    let mut next = column;
-    let mut slot = 1;
-    while slot <= places.n {
-        let k = (slot - 1) as usize;
-        let frame = frames[k];
-        next = heard_at(file, places, round, frame, slot, to, next);
-        slot += 1;
+    for slot in 1..places.settings.n + 1 {
+        hear(
+            file,
+            places,
+            round,
+            &frames[(slot - 1) as usize],
+            slot,
+            to,
+            column,
+        );
     }
-    let closed = column::close(next);
-    closed.column
+    // A good column's closing is not refused, and a bad one's record stays empty.
+    let _ = column::close(column);
 }
 
 // One round of all columns.
-fn one_round(
-    file: &[u8],
-    places: Places,
-    round: u32,
-    columns: [Column; MOST_COLUMNS],
-) -> [Column; MOST_COLUMNS]
-    requires { PlacesOf file.now places × (1 ≤ round) × (round ≤ 3) }
-    ensures { (f : Scenario) → Located file.now places f → RoundRun f round columns result }
+fn run_round(file: &[u8], places: &Places, round: u32, columns: &mut [Column; MOST_COLUMNS])
+    requires { PlacesOf file.now places.now × (1 ≤ round) × (round ≤ 3) }
+    ensures { (f : Scenario) → Located file.now places.now f → RoundRun f round columns.old columns.new }
 {
-    let frames = all_sent(places.n, columns);
-    let mut next = columns;
-    let mut number = 1;
-    while number <= places.n {
+    let frames = all_sent(places.settings.n, columns);
+    for number in 1..places.settings.n + 1 {
         let k = (number - 1) as usize;
-        let column = columns[k];
-        next[k] = after_round(file, places, round, frames, number, column);
-        number += 1;
+        let mut column = columns[k];
+        finish_round(file, places, round, &frames, number, &mut column);
+        columns[k] = column;
     }
-    next
 }
 
 // The columns after three rounds.
-pub fn run(file: &[u8], places: Places) -> [Column; MOST_COLUMNS]
-    requires { PlacesOf file.now places }
-    ensures { (f : Scenario) → Located file.now places f → GroupRan f result }
+pub fn run(file: &[u8], places: &Places) -> [Column; MOST_COLUMNS]
+    requires { PlacesOf file.now places.now }
+    ensures { (f : Scenario) → Located file.now places.now f → GroupRan f result }
 {
-    let first = opened(file, places);
-    let second = one_round(file, places, 1, first);
-    let third = one_round(file, places, 2, second);
-    one_round(file, places, 3, third)
+    let mut columns = opened(file, places);
+    run_round(file, places, 1, &mut columns);
+    run_round(file, places, 2, &mut columns);
+    run_round(file, places, 3, &mut columns);
+    columns
 }

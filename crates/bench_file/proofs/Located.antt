@@ -1,44 +1,51 @@
--- Places read as a scenario: whether bytes stand at a place is whether it is not 0, and with one place more in its slot of the list all
+-- Places read as a scenario: whether bytes stand at a place is whether there is one, and with one place more in its slot of the list all
 -- other places are as before. The slots of two messages are the same only if round and columns are. Assumes nothing.
 use mathlib.Core.Path.{◌≡◌, refl, sym, ◌∙◌, ap}
-use mathlib.Core.Bool.{Bool, true, false, cond, not, ◌&&◌}
+use mathlib.Core.Bool.{Bool, true, false, cond, ◌&&◌}
 use mathlib.Core.List.{List, ◌∷◌}
 use mathlib.Core.Option.{Option, none, some}
-use Prim.Native.Nat.{ℕ, ◌+◌, ◌*◌, ◌-◌, ◌≤◌, ◌<◌}
+use Rattle.std.specs.Prelude.{Option as Place, Some, None, is_some}
+use Prim.Native.Nat.{ℕ, zero, suc, ◌+◌, ◌*◌, ◌-◌, ◌≤◌, ◌<◌}
 use native.Mathlib.Omega.{arith}
 use lib.Dec.{eqb}
-use lib.ListN.{length, get_or, set, take, drop}
+use lib.ListN.{length, get_or, set, take, drop, replicate}
 use lib.Seq.{get_or-set_same, get_or-set_other}
-use borrow.Author.Tests.{eqb-true, eqb-false, eq-eqb, ne_eqb}
+use borrow.Author.Tests.{eqb-true, eqb-false, eq-eqb}
 use Rattle.arrays.proofs.Bool.{and_split, true_not_false}
 use Rattle.code.specs.Settings.{Settings, settings, settings_refusal}
-use Rattle.code.specs.Size.{most_columns, value_room}
-use Rattle.code.proofs.ValidSettings.{sizes}
+use Rattle.code.specs.Size.{most_columns}
 use Rattle.record.specs.Refusal.{open_refusal}
 use Rattle.record.specs.Record.{is_taken}
-use Rattle.bench_file.specs.declared.places.Places.{Places}
 use Rattle.bench_file.specs.Scenario.{Scenario, Own, Message, own_of, message_of}
 use Rattle.bench_file.specs.Steps.Places.{BytesAt, message_index, MessageRange, Located}
+use Rattle.bench_file.specs.declared.places.Places.{Places}
 
-pub bytes_at_taken : (file : List ℕ) (size at : ℕ) (x : Option (List ℕ)) → BytesAt file size at x → not (eqb at 0) ≡ is_taken x
+pub bytes_at_taken : (file : List ℕ) (size : ℕ) (at : Place ℕ) (x : Option (List ℕ)) → BytesAt file size at x → is_some at ≡ is_taken x
 unfolding BytesAt is_taken
-bytes_at_taken file size at none h = rw h refl
-bytes_at_taken file size at (some x) h = rw (ne_eqb at 0 h.0) refl
+bytes_at_taken file size None none h = refl
+bytes_at_taken file size (Some at) (some x) h = refl
+bytes_at_taken file size None (some x) h = absurd h
+bytes_at_taken file size (Some at) none h = absurd h
 
-pub bytes_at_inside : (file : List ℕ) (size at : ℕ) (x : Option (List ℕ)) → BytesAt file size at x → (at ≡ 0 → ⊥) → at + size ≤ length file
+pub bytes_at_none : (file : List ℕ) (size : ℕ) (x : Option (List ℕ)) → BytesAt file size None x → x ≡ none
 unfolding BytesAt
-bytes_at_inside file size at none s h = absurd (h s)
-bytes_at_inside file size at (some x) s h = s.1
+bytes_at_none file size none s = refl
+bytes_at_none file size (some x) s = absurd s
 
-pub bytes_at_none : (file : List ℕ) (size at : ℕ) (x : Option (List ℕ)) → BytesAt file size at x → at ≡ 0 → x ≡ none
+pub bytes_at_some :
+    (file : List ℕ) (size at : ℕ) (x : Option (List ℕ)) → BytesAt file size (Some at) x → (at + size ≤ length file) × (x ≡ some (take size (drop at file)))
 unfolding BytesAt
-bytes_at_none file size at none s h = refl
-bytes_at_none file size at (some x) s h = absurd (s.0 h)
+bytes_at_some file size at none s = absurd s
+bytes_at_some file size at (some x) s = (s.0, ap some s.1)
 
-pub bytes_at_some : (file : List ℕ) (size at : ℕ) (x : Option (List ℕ)) → BytesAt file size at x → (at ≡ 0 → ⊥) → x ≡ some (take size (drop at file))
-unfolding BytesAt
-bytes_at_some file size at none s h = absurd (h s)
-bytes_at_some file size at (some x) s h = ap some s.2
+-- no place is kept yet
+abbrev no_place : Place ℕ
+no_place = None
+
+pub none_at : (many i : ℕ) → get_or (replicate many no_place) i None ≡ no_place
+none_at zero i = refl
+none_at (suc many) zero = refl
+none_at (suc many) (suc i) = none_at many i
 
 -- the slots of two messages
 rounds_apart : (a b x y : ℕ) → x < most_columns * most_columns → y < most_columns * most_columns → a * (most_columns * most_columns) + x ≡ b * (most_columns * most_columns) + y → (a ≡ b) × (x ≡ y)
@@ -63,19 +70,19 @@ index_apart m k l p i j a b e =
 
 -- one own value more
 pub own_more :
-    (file : List ℕ) (size at column : ℕ) (v : List ℕ) (owns : List Own) (places : List ℕ) → column - 1 < length places → 1 ≤ column →
-    BytesAt file size at (some v) → ((k : ℕ) → 1 ≤ k → k ≤ most_columns → BytesAt file size (get_or places (k - 1) 0) (own_of owns k)) →
+    (file : List ℕ) (size at column : ℕ) (v : List ℕ) (owns : List Own) (places : List (Place ℕ)) → column - 1 < length places → 1 ≤ column →
+    BytesAt file size (Some at) (some v) → ((k : ℕ) → 1 ≤ k → k ≤ most_columns → BytesAt file size (get_or places (k - 1) None) (own_of owns k)) →
     (k : ℕ) → 1 ≤ k → k ≤ most_columns →
-    BytesAt file size (get_or (set places (column - 1) at) (k - 1) 0) (cond (eqb column k) (some v) (own_of owns k))
+    BytesAt file size (get_or (set places (column - 1) (Some at)) (k - 1) None) (cond (eqb column k) (some v) (own_of owns k))
 own_more file size at column v owns places fits low new old k l h = go (eqb column k) refl
   where
-    go : (q : Bool) → eqb column k ≡ q → BytesAt file size (get_or (set places (column - 1) at) (k - 1) 0) (cond q (some v) (own_of owns k))
+    go : (q : Bool) → eqb column k ≡ q → BytesAt file size (get_or (set places (column - 1) (Some at)) (k - 1) None) (cond q (some v) (own_of owns k))
     go true e =
         let same : k ≡ column = sym (eqb-true column k e) in
-        rw (same, get_or-set_same places (column - 1) at 0 fits) new
+        rw (same, get_or-set_same places (column - 1) (Some at) None fits) new
     go false e =
         let other = eqb-false column k e in
-        rw (get_or-set_other places (column - 1) (k - 1) at 0 (λ z. other (omega arith))) (old k l h)
+        rw (get_or-set_other places (column - 1) (k - 1) (Some at) None (λ z. other (omega arith))) (old k l h)
 
 -- nothing is no value
 pub none_some : {A B : Type 0} {x : A} → none ≡ some x → B
@@ -96,17 +103,17 @@ own_opens s column v owns new old k u = go (eqb column k) refl
 
 -- one message more
 pub message_more :
-    (file : List ℕ) (sizes : ℕ → ℕ) (at : ℕ) (x : Message) (messages : List Message) (places : List ℕ) →
+    (file : List ℕ) (sizes : ℕ → ℕ) (at : ℕ) (x : Message) (messages : List Message) (places : List (Place ℕ)) →
     MessageRange x.round x.from x.to → message_index x.round x.from x.to < length places →
-    BytesAt file (sizes x.round) at (some x.operand) → (m k l : ℕ) → MessageRange m k l →
-    BytesAt file (sizes m) (get_or places (message_index m k l) 0) (message_of messages m k l) →
-    BytesAt file (sizes m) (get_or (set places (message_index x.round x.from x.to) at) (message_index m k l) 0) (message_of (x ∷ messages) m k l)
+    BytesAt file (sizes x.round) (Some at) (some x.operand) → (m k l : ℕ) → MessageRange m k l →
+    BytesAt file (sizes m) (get_or places (message_index m k l) None) (message_of messages m k l) →
+    BytesAt file (sizes m) (get_or (set places (message_index x.round x.from x.to) (Some at)) (message_index m k l) None) (message_of (x ∷ messages) m k l)
 unfolding message_of
 message_more file sizes at x messages places range fits new m k l other old = go (eqb x.round m && (eqb x.from k && eqb x.to l)) refl
   where
     go :
         (q : Bool) → (eqb x.round m && (eqb x.from k && eqb x.to l)) ≡ q →
-        BytesAt file (sizes m) (get_or (set places (message_index x.round x.from x.to) at) (message_index m k l) 0)
+        BytesAt file (sizes m) (get_or (set places (message_index x.round x.from x.to) (Some at)) (message_index m k l) None)
         (cond q (some x.operand) (message_of messages m k l))
     go true e =
         let outer = and_split (eqb x.round m) _ e in
@@ -115,33 +122,18 @@ message_more file sizes at x messages places range fits new m k l other old = go
         let from : k ≡ x.from = sym (eqb-true x.from k inner.0) in
         let to : l ≡ x.to = sym (eqb-true x.to l inner.1) in
         rw
-        (round, from, to, get_or-set_same places (message_index x.round x.from x.to) at 0 fits)
+        (round, from, to, get_or-set_same places (message_index x.round x.from x.to) (Some at) None fits)
         new
     go false e =
         rw
-        (get_or-set_other places (message_index x.round x.from x.to) (message_index m k l) at 0
+        (get_or-set_other places (message_index x.round x.from x.to) (message_index m k l) (Some at) None
         (λ z.
         let same = index_apart m k l x.round x.from x.to other range z in
         let tests : (eqb x.round m && (eqb x.from k && eqb x.to l)) ≡ true = rw (same.0, same.1, same.2, eq-eqb x.round x.round refl, eq-eqb x.from x.from refl, eq-eqb x.to x.to refl) refl in
         true_not_false (sym tests ∙ e)))
         old
 
--- settings that are not turned down are small
-pub record Small (p : Places) : Type 0 where
-  pub some_columns : 1 ≤ p.n
-  pub few_columns : p.n ≤ most_columns
-  pub few_bad : p.t ≤ 10
-  pub some_bytes : 1 ≤ p.w
-  pub few_bytes : p.w ≤ value_room
-
-pub small : (file : List ℕ) (p : Places) (f : Scenario) → Located file p f → Small p
+-- the settings of what was said are allowed
+pub located_fine : (file : List ℕ) (p : Places) (f : Scenario) → Located file p f → settings_refusal f.settings ≡ 0
 unfolding settings
-small file p f h =
-    let s = sizes (settings p.n p.t p.w) (ap settings_refusal (sym h.settings) ∙ h.fine) in
-    record {
-      some_columns = s.some_columns;
-      few_columns = s.few_columns;
-      few_bad = omega (arith, s.few_columns, s.few_bad);
-      some_bytes = s.some_bytes;
-      few_bytes = s.few_bytes;
-    }
+located_fine file p f h = rw h.settings p.settings.allowed

@@ -1,319 +1,243 @@
 // The commands behind the group's: their lengths, their faults, and what they say.
-ghost use Rattle.std.specs.Prelude.{◌≡◌, ◌&&◌, true, List, ℕ, ◌+◌, ◌≤◌, ◌<◌, length, get_or, drop};
-ghost use Rattle.code.specs.Settings.{settings};
-ghost use Rattle.code.specs.Size.{most_columns, value_room, checks_room};
+ghost use Rattle.std.specs.Prelude.{◌≡◌, true, List, ℕ, ◌+◌, ◌≤◌, ◌<◌, ◌^◌, length, get_or, drop, IfOk};
+ghost use Rattle.code.specs.Size.{most_columns, checks_room};
+ghost use Rattle.refusal.specs.Number.{answer_of};
 ghost use Rattle.bench_file.specs.Scenario.{Scenario};
-ghost use Rattle.bench_file.specs.Command.{is_known, head_size, body_size, command_size, form_fault, round_in, from_in, to_in, is_column, column_refusal, message_refusal, checks_round_refusal, operand_refusal, command_refusal, after_command};
-ghost use Rattle.bench_file.specs.Steps.Places.{Located, PlacesOf};
-ghost use Rattle.bench_file.specs.Steps.CommandAt.{Begins, value_fault, Accepted, Stepped};
+ghost use Rattle.bench_file.specs.Command.{head_size, body_size, command_size, form_fault, is_column, column_refusal, message_refusal, checks_round_refusal, operand_refusal, command_refusal, after_command};
+ghost use Rattle.bench_file.specs.Steps.Places.{group_of, MessageRange, Located};
+ghost use Rattle.bench_file.specs.Steps.CommandAt.{code_of, Says, Begins, InRange, value_fault, Accepted, Stepped};
 
-use crate::places;
 use crate::places::Places;
+use code::settings::Settings;
 use record::frames;
+use refusal::Refusal;
 
 // The byte at a place; 0 past the end.
-fn byte_at(file: &[u8], at: usize) -> u32
+pub fn byte_at(file: &[u8], at: usize) -> u32
     ensures { (result ≡ get_or file.now at 0) × (result < 256) }
 {
-    if at < file.len() {
-        return file[at] as u32;
-    }
-    0
+    u32::from(file.get(at).copied().unwrap_or(0))
 }
 
-// The bytes with which a command begins: its own, and the three behind it; 0 past the end.
+// A command with its operands in front of the value or the check values: an own value, a value and check values of a bad column's message,
+// and the end.
 #[derive(Clone, Copy)]
-pub struct Head {
-    pub command: u32,
-    pub first: u32,
-    pub second: u32,
-    pub third: u32,
+pub enum Command {
+    Own { column: u32 },
+    Value { from: u32, to: u32 },
+    Checks { round: u32, from: u32, to: u32 },
+    End,
 }
 
-pub fn head_at(file: &[u8], at: usize) -> Head
+// The command that begins at a place; none, it is unknown.
+fn command_at(file: &[u8], at: usize) -> Option<Command>
     requires { at ≤ length file.now }
     ensures { Begins (drop at file.now) result }
 {
-    let command = byte_at(file, at);
     let first = byte_at(file, at + 1);
     let second = byte_at(file, at + 2);
     let third = byte_at(file, at + 3);
-    Head {
-        command,
-        first,
-        second,
-        third,
+    match byte_at(file, at) {
+        4 => Some(Command::Own { column: first }),
+        2 => Some(Command::Value {
+            from: first,
+            to: second,
+        }),
+        3 => Some(Command::Checks {
+            round: first,
+            from: second,
+            to: third,
+        }),
+        15 => Some(Command::End),
+        _ => None,
     }
 }
 
-fn is_known(command: u32) -> bool
-    ensures { result ≡ is_known command }
-{
-    if command == 4 {
-        return true;
+impl Command {
+    // The bytes in front of a command's value or check values.
+    #[tactic(auto, unfolding(crate::specs::Command::head_size))]
+    fn head_size(self) -> usize
+        ensures value { result ≡ head_size (code_of self) }
+        ensures small { (1 ≤ result) × (result ≤ 4) }
+    {
+        match self {
+            Command::Own { .. } => 2,
+            Command::Value { .. } => 3,
+            Command::Checks { .. } => 4,
+            Command::End => 1,
+        }
     }
-    if command == 2 {
-        return true;
+
+    // The bytes of its value or check values; n plays no part.
+    #[tactic(auto, using(crate::proofs::OneCommand::Faults::operand_alike, crate::proofs::OneCommand::Faults::small_settings), unfolding(crate::specs::Command::body_size))]
+    fn body_size(self, settings: Settings) -> usize
+        ensures value { result ≡ body_size (group_of settings) (code_of self) }
+        ensures small { result ≤ checks_room }
+    {
+        match self {
+            Command::Own { .. } | Command::Value { .. } => frames::operand_size(
+                settings.t, settings.w, 1,
+            ),
+            Command::Checks { .. } => frames::operand_size(settings.t, settings.w, 2),
+            Command::End => 0,
+        }
     }
-    if command == 3 {
-        return true;
+
+    #[tactic(auto, unfolding(crate::specs::Command::command_size))]
+    fn size(self, settings: Settings) -> usize
+        ensures value { result ≡ command_size (group_of settings) (code_of self) }
+        ensures small { (1 ≤ result) × (result ≤ 4 + checks_room) }
+    {
+        self.head_size() + self.body_size(settings)
     }
-    command == 15
+
+    // The form, of a known command with so many bytes left: out of order, cut short, bytes after the end.
+    #[tactic(auto, using(std::proofs::lemmas::Bool::Decides::nat_tests), unfolding(crate::specs::Command::form_fault, crate::specs::Command::is_known))]
+    fn check_form(self, left: usize, settings: Settings, late: bool) -> Result<(), Refusal>
+        ensures answer { answer_of result ≡ form_fault (group_of settings) late (code_of self) left }
+        ensures fits { IfOk result (λ _. command_size (group_of settings) (code_of self) ≤ left) }
+    {
+        if matches!(self, Command::Own { .. }) && late {
+            return Err(Refusal::Form);
+        }
+        if left < self.size(settings) {
+            return Err(Refusal::Form);
+        }
+        if matches!(self, Command::End) && 1 < left {
+            return Err(Refusal::Form);
+        }
+        Ok(())
+    }
+
+    // The operands.
+    fn check_operand(self, places: &Places) -> Result<(), Refusal>
+        ensures answer { (file : List ℕ) (f : Scenario) (bs : List ℕ) → Located file places.now f → Says bs self → answer_of result ≡ operand_refusal f bs }
+        ensures inside { IfOk result (λ _. InRange self) }
+    {
+        match self {
+            Command::Own { column } => check_column(places, column),
+            Command::Value { from, to } => check_message(places, 1, from, to),
+            Command::Checks { round, from, to } => {
+                check_round(round)?;
+                check_message(places, round, from, to)
+            }
+            Command::End => Ok(()),
+        }
+    }
+
+    // An own value: it is not blank.
+    fn check_value(self, file: &[u8], at: usize, settings: Settings) -> Result<(), Refusal>
+        requires { at + command_size (group_of settings) (code_of self) ≤ length file.now }
+        ensures { answer_of result ≡ value_fault file.now at (code_of self) settings.w }
+    {
+        if let Command::Own { .. } = self {
+            let start = at + 2;
+            let end = start + settings.size();
+            if arrays::is_zero(&file[start..end]) {
+                return Err(Refusal::OwnBlank);
+            }
+        }
+        Ok(())
+    }
+
+    // The places after a command that is not turned down.
+    fn put(self, at: usize, places: &mut Places)
+        requires { InRange self × (at + 4 < 2 ^ 64) }
+        ensures { (file : List ℕ) (f : Scenario) → Accepted file f at self places.old → Located file places.new (after_command f (drop at file)) }
+    {
+        let body = at + self.head_size();
+        match self {
+            Command::Own { column } => places.put_own(column, body),
+            Command::Value { from, to } => places.put_message(1, from, to, body),
+            Command::Checks { round, from, to } => places.put_message(round, from, to, body),
+            Command::End => {}
+        }
+    }
 }
 
-// The bytes in front of a command's value or check values.
-fn head_size(command: u32) -> usize
-    ensures value { result ≡ head_size command }
-    ensures small { (1 ≤ result) × (result ≤ 4) }
-{
-    if command == 4 {
-        return 2;
-    }
-    if command == 2 {
-        return 3;
-    }
-    if command == 3 {
-        return 4;
-    }
-    1
-}
-
-// The bytes of its value or check values; n plays no part.
-fn body_size(t: u32, w: u32, command: u32) -> usize
-    requires { (t ≤ 10) × (w ≤ value_room) }
-    ensures value { result ≡ body_size (settings 0 t w) command }
-    ensures small { result ≤ checks_room }
-{
-    if command == 15 {
-        return 0;
-    }
-    if command == 3 {
-        return frames::operand_size(t, w, 2);
-    }
-    frames::operand_size(t, w, 1)
-}
-
-fn command_size(t: u32, w: u32, command: u32) -> usize
-    requires { (t ≤ 10) × (w ≤ value_room) }
-    ensures value { result ≡ command_size (settings 0 t w) command }
-    ensures small { (1 ≤ result) × (result ≤ 4 + checks_room) }
-{
-    head_size(command) + body_size(t, w, command)
-}
-
-fn both(a: bool, b: bool) -> bool
-    ensures { result ≡ (a && b) }
-{
-    if a {
-        return b;
-    }
-    false
-}
-
-// 19: unknown, out of order, cut short, bytes after the end; of so many bytes left.
-fn form_refusal(command: u32, left: usize, t: u32, w: u32, late: bool) -> u32
-    requires { (t ≤ 10) × (w ≤ value_room) }
-    ensures { result ≡ form_fault (settings 0 t w) late command left }
-{
-    if !is_known(command) {
-        return 19;
-    }
-    if both(command == 4, late) {
-        return 19;
-    }
-    if left < command_size(t, w, command) {
-        return 19;
-    }
-    if both(command == 15, 1 < left) {
-        return 19;
-    }
-    0
-}
-
+#[tactic(auto, using(std::proofs::lemmas::Bool::Decides::nat_tests), unfolding(crate::specs::Command::is_column))]
 fn is_column(n: u32, column: u32) -> bool
-    ensures { result ≡ is_column n column }
+    ensures value { result ≡ is_column n column }
+    ensures inside { result ≡ true → (1 ≤ column) × (column ≤ n) }
 {
-    if column < 1 {
-        return false;
-    }
-    column <= n
+    1 <= column && column <= n
 }
 
-// 20, of an own value: a column not 1 to n, a column owned twice.
-fn column_refusal(places: Places, column: u32) -> u32
-    requires { places.n ≤ most_columns }
-    ensures { (file : List ℕ) (f : Scenario) → Located file places f → result ≡ column_refusal f column }
+// An own value: its column is one of 1 to n, and not owned yet.
+fn check_column(places: &Places, column: u32) -> Result<(), Refusal>
+    ensures answer { (file : List ℕ) (f : Scenario) → Located file places.now f → answer_of result ≡ column_refusal f column }
+    ensures inside { IfOk result (λ _. (1 ≤ column) × (column ≤ most_columns)) }
 {
-    if !is_column(places.n, column) {
-        return 20;
+    if !is_column(places.settings.n, column) {
+        return Err(Refusal::Operand);
     }
-    if places::is_good(places, column) {
-        return 20;
+    if places.is_good(column) {
+        return Err(Refusal::Operand);
     }
-    0
+    Ok(())
 }
 
-// 20, of a message: a column not 1 to n, from a good one, to a bad one, the same message twice.
-fn message_refusal(places: Places, round: u32, from: u32, to: u32) -> u32
-    requires { (places.n ≤ most_columns) × (1 ≤ round) × (round ≤ 3) }
-    ensures { (file : List ℕ) (f : Scenario) → Located file places f → result ≡ message_refusal f round from to }
+// A message: its columns are of 1 to n, it is from a bad one to a good one, and the first of its round.
+fn check_message(places: &Places, round: u32, from: u32, to: u32) -> Result<(), Refusal>
+    requires { (1 ≤ round) × (round ≤ 3) }
+    ensures answer { (file : List ℕ) (f : Scenario) → Located file places.now f → answer_of result ≡ message_refusal f round from to }
+    ensures inside { IfOk result (λ _. MessageRange round from to) }
 {
-    if !is_column(places.n, from) {
-        return 20;
+    if !is_column(places.settings.n, from) {
+        return Err(Refusal::Operand);
     }
-    if !is_column(places.n, to) {
-        return 20;
+    if !is_column(places.settings.n, to) {
+        return Err(Refusal::Operand);
     }
-    if places::is_good(places, from) {
-        return 20;
+    if places.is_good(from) {
+        return Err(Refusal::Operand);
     }
-    if !places::is_good(places, to) {
-        return 20;
+    if !places.is_good(to) {
+        return Err(Refusal::Operand);
     }
-    if places::message_at(places, round, from, to) != 0 {
-        return 20;
+    if places.message(round, from, to).is_some() {
+        return Err(Refusal::Operand);
     }
-    0
+    Ok(())
 }
 
-// The round and the columns of a message.
-#[derive(Clone, Copy)]
-pub struct Heading {
-    pub round: u32,
-    pub from: u32,
-    pub to: u32,
-}
-
-fn heading_of(head: Head) -> Heading
-    ensures { (bs : List ℕ) → Begins bs head → (result.round ≡ round_in bs) × (result.from ≡ from_in bs) × (result.to ≡ to_in bs) }
+// Checks are of rounds 2 and 3.
+#[tactic(auto, using(std::proofs::lemmas::Bool::Decides::nat_tests), unfolding(crate::specs::Command::checks_round_refusal))]
+fn check_round(round: u32) -> Result<(), Refusal>
+    ensures answer { answer_of result ≡ checks_round_refusal 3 round }
+    ensures inside { IfOk result (λ _. (2 ≤ round) × (round ≤ 3)) }
 {
-    if head.command == 2 {
-        return Heading {
-            round: 1,
-            from: head.first,
-            to: head.second,
-        };
+    if round == 2 || round == 3 {
+        return Ok(());
     }
-    Heading {
-        round: head.first,
-        from: head.second,
-        to: head.third,
-    }
+    Err(Refusal::Operand)
 }
 
-// 20, of checks: a round other than 2 and 3.
-fn checks_round_refusal(command: u32, round: u32) -> u32
-    ensures { result ≡ checks_round_refusal command round }
+// The command at a place, where it is not turned down: by its form, then its operands, then its value.
+fn checked(file: &[u8], at: usize, places: &Places) -> Result<Command, Refusal>
+    requires { at ≤ length file.now }
+    ensures answer { (f : Scenario) → Located file.now places.now f → answer_of result ≡ command_refusal f (drop at file.now) }
+    ensures says { IfOk result (λ command. Says (drop at file.now) command × InRange command × (at + command_size (group_of places.now.settings) (code_of command) ≤ length file.now)) }
 {
-    if command != 3 {
-        return 0;
-    }
-    if round == 2 {
-        return 0;
-    }
-    if round == 3 {
-        return 0;
-    }
-    20
+    let Some(command) = command_at(file, at) else {
+        return Err(Refusal::Form);
+    };
+    command.check_form(file.len() - at, places.settings, places.late)?;
+    command.check_operand(places)?;
+    command.check_value(file, at, places.settings)?;
+    Ok(command)
 }
 
-// 20: operand not allowed.
-fn operand_refusal(head: Head, places: Places) -> u32
-    requires { (places.n ≤ most_columns) × (is_known head.command ≡ true) }
-    ensures { (file : List ℕ) (f : Scenario) (bs : List ℕ) → Located file places f → Begins bs head → result ≡ operand_refusal f bs }
+// One command read: the place behind it, and nothing at the end.
+pub fn step(file: &[u8], at: usize, places: &mut Places) -> Result<Option<usize>, Refusal>
+    requires { at ≤ length file.now }
+    ensures { (f : Scenario) → Located file.now places.old f → Stepped f file.now at result places.new }
 {
-    if head.command == 15 {
-        return 0;
+    let command = checked(file, at, places)?;
+    if let Command::End = command {
+        return Ok(None);
     }
-    if head.command == 4 {
-        return column_refusal(places, head.first);
-    }
-    let of = heading_of(head);
-    let of_round = checks_round_refusal(head.command, of.round);
-    if of_round != 0 {
-        return of_round;
-    }
-    message_refusal(places, of.round, of.from, of.to)
-}
-
-// 6: own value blank.
-fn value_refusal(file: &[u8], at: usize, command: u32, w: u32) -> u32
-    requires { (w ≤ value_room) × (at ≤ length file.now) × (command ≡ 4 → at + (2 + w) ≤ length file.now) }
-    ensures { result ≡ value_fault file.now at command w }
-{
-    if command != 4 {
-        return 0;
-    }
-    let start = at + 2;
-    let end = start + w as usize;
-    if arrays::is_zero(&file[start..end]) {
-        return 6;
-    }
-    0
-}
-
-// Where a command is turned down: 19, then 20, then 6; 0, it is not.
-fn command_refusal(file: &[u8], at: usize, head: Head, places: Places) -> u32
-    requires { PlacesOf file.now places × (at ≤ length file.now) × Begins (drop at file.now) head }
-    ensures { (f : Scenario) → Located file.now places f → result ≡ command_refusal f (drop at file.now) }
-{
-    let left = file.len() - at;
-    let of_form = form_refusal(head.command, left, places.t, places.w, places.late);
-    if of_form != 0 {
-        return of_form;
-    }
-    let of_operand = operand_refusal(head, places);
-    if of_operand != 0 {
-        return of_operand;
-    }
-    value_refusal(file, at, head.command, places.w)
-}
-
-// The places after a command that is not turned down.
-fn after_command(at: usize, head: Head, places: Places) -> Places
-    requires { (file : List ℕ) × (f : Scenario) × Accepted file f at head places }
-    ensures { (file : List ℕ) (f : Scenario) → Accepted file f at head places → Located file result (after_command f (drop at file)) }
-{
-    let body = at + head_size(head.command);
-    if head.command == 4 {
-        return places::with_own(places, head.first, body);
-    }
-    let of = heading_of(head);
-    places::with_message(places, of.round, of.from, of.to, body)
-}
-
-// Where reading goes on behind a command: nowhere, it is turned down; nowhere, it is the end; the place of the next.
-#[derive(Clone, Copy)]
-pub enum Turn {
-    Refused(u32),
-    End,
-    Next(usize),
-}
-
-// One command read: where to go on, and the places after it.
-#[derive(Clone, Copy)]
-pub struct Step {
-    pub turn: Turn,
-    pub places: Places,
-}
-
-pub fn step_at(file: &[u8], at: usize, places: Places) -> Step
-    requires { PlacesOf file.now places × (at ≤ length file.now) }
-    ensures { (f : Scenario) → Located file.now places f → Stepped f file.now at result.turn result.places }
-{
-    let head = head_at(file, at);
-    let refusal = command_refusal(file, at, head, places);
-    if refusal != 0 {
-        let turn = Turn::Refused(refusal);
-        return Step { turn, places };
-    }
-    if head.command == 15 {
-        let turn = Turn::End;
-        return Step { turn, places };
-    }
-    let size = command_size(places.t, places.w, head.command);
-    let next = at + size;
-    let turn = Turn::Next(next);
-    let more = after_command(at, head, places);
-    Step { turn, places: more }
+    let next = at + command.size(places.settings);
+    command.put(at, places);
+    Ok(Some(next))
 }

@@ -1,43 +1,27 @@
 // Where in a bench file the own values and messages stand.
 ghost use Rattle.std.specs.Prelude.{◌≡◌, List, ℕ, ◌≤◌, ◌<◌};
 ghost use Rattle.std.proofs.Math.Option.{some};
-ghost use Rattle.code.specs.Settings.{settings, settings_refusal};
 ghost use Rattle.code.specs.Size.{most_columns};
 ghost use Rattle.grading.specs.Value.{Value};
 ghost use Rattle.record.specs.Frame.{operand_size};
 ghost use Rattle.record.specs.Refusal.{open_refusal};
 ghost use Rattle.bench_file.specs.Scenario.{Scenario, only_settings, with_own, with_message, message, own_of, message_of, is_good};
-ghost use Rattle.bench_file.specs.Steps.Places.{most_messages, message_index, BytesAt, MessageRange, Located};
+ghost use Rattle.bench_file.specs.Steps.Places.{most_messages, message_index, group_of, BytesAt, MessageRange, Located};
 
+use code::settings::Settings;
 use code::sizes::MOST_COLUMNS;
 
 // Of each round, from each column to each.
 const MOST_MESSAGES: usize = 3 * MOST_COLUMNS * MOST_COLUMNS;
 
-// The settings, the place of each column's own value, and of each message by round, sender and reader; 0, where the group command
-// stands, says that there is none. Whether there is a message yet.
-#[derive(Clone, Copy)]
+// The settings, the place of each column's own value, and of each message by round, sender and reader. Whether there is a message yet.
+#[derive(Drop)]
 pub struct Places {
-    pub n: u32,
-    pub t: u32,
-    pub w: u32,
-    pub owns: [usize; MOST_COLUMNS],
-    pub messages: [usize; MOST_MESSAGES],
+    pub settings: Settings,
+    pub owns: [Option<usize>; MOST_COLUMNS],
+    // 48 KiB as 16 bytes each, made once for a file: half of it would be saved by places of 32 bits, for a conversion at each use.
+    pub messages: [Option<usize>; MOST_MESSAGES],
     pub late: bool,
-}
-
-// The settings alone.
-pub fn only_settings(n: u32, t: u32, w: u32) -> Places
-    ensures { (file : List ℕ) → settings_refusal (settings n t w) ≡ 0 → Located file result (only_settings (settings n t w)) }
-{
-    Places {
-        n,
-        t,
-        w,
-        owns: [0usize; MOST_COLUMNS],
-        messages: [0usize; MOST_MESSAGES],
-        late: false,
-    }
 }
 
 fn index_of_message(round: u32, from: u32, to: u32) -> usize
@@ -47,50 +31,56 @@ fn index_of_message(round: u32, from: u32, to: u32) -> usize
     ((round - 1) * 1024 + ((from - 1) * 32 + (to - 1))) as usize
 }
 
-// The place of a column's own value.
-pub fn own_at(places: Places, column: u32) -> usize
-    requires { (1 ≤ column) × (column ≤ most_columns) }
-    ensures { (file : List ℕ) (f : Scenario) → Located file places f → BytesAt file places.w result (own_of f.owns column) }
-{
-    let k = (column - 1) as usize;
-    places.owns[k]
-}
+impl Places {
+    // The settings alone.
+    pub fn only_settings(settings: Settings) -> Self
+        ensures { (file : List ℕ) → Located file result (only_settings (group_of settings)) }
+    {
+        Places {
+            settings,
+            owns: [None; MOST_COLUMNS],
+            messages: [None; MOST_MESSAGES],
+            late: false,
+        }
+    }
 
-pub fn is_good(places: Places, column: u32) -> bool
-    requires { (1 ≤ column) × (column ≤ most_columns) }
-    ensures { (file : List ℕ) (f : Scenario) → Located file places f → result ≡ is_good f column }
-{
-    own_at(places, column) != 0
-}
+    // The place of a column's own value; none, a bad column.
+    pub fn own(&self, column: u32) -> Option<usize>
+        requires { (1 ≤ column) × (column ≤ most_columns) }
+        ensures { (file : List ℕ) (f : Scenario) → Located file self.now f → BytesAt file self.now.settings.w result (own_of f.owns column) }
+    {
+        self.owns[(column - 1) as usize]
+    }
 
-// The place of a message.
-pub fn message_at(places: Places, round: u32, from: u32, to: u32) -> usize
-    requires { MessageRange round from to }
-    ensures { (file : List ℕ) (f : Scenario) → Located file places f → BytesAt file (operand_size f.settings round) result (message_of f.messages round from to) }
-{
-    let i = index_of_message(round, from, to);
-    places.messages[i]
-}
+    pub fn is_good(&self, column: u32) -> bool
+        requires { (1 ≤ column) × (column ≤ most_columns) }
+        ensures { (file : List ℕ) (f : Scenario) → Located file self.now f → result ≡ is_good f column }
+    {
+        self.own(column).is_some()
+    }
 
-// With a column's own value at a place.
-pub fn with_own(places: Places, column: u32, at: usize) -> Places
-    requires { (1 ≤ column) × (column ≤ most_columns) }
-    ensures { (file : List ℕ) (f : Scenario) (v : Value) → Located file places f → BytesAt file places.w at (some v) → open_refusal f.settings column v ≡ 0 → Located file result (with_own f column v) }
-{
-    let k = (column - 1) as usize;
-    let mut more = places;
-    more.owns[k] = at;
-    more
-}
+    // The place of a message.
+    pub fn message(&self, round: u32, from: u32, to: u32) -> Option<usize>
+        requires { MessageRange round from to }
+        ensures { (file : List ℕ) (f : Scenario) → Located file self.now f → BytesAt file (operand_size f.settings round) result (message_of f.messages round from to) }
+    {
+        self.messages[index_of_message(round, from, to)]
+    }
 
-// With a message at a place.
-pub fn with_message(places: Places, round: u32, from: u32, to: u32, at: usize) -> Places
-    requires { MessageRange round from to }
-    ensures { (file : List ℕ) (f : Scenario) (x : List ℕ) → Located file places f → BytesAt file (operand_size f.settings round) at (some x) → Located file result (with_message f (message round from to x)) }
-{
-    let i = index_of_message(round, from, to);
-    let mut more = places;
-    more.messages[i] = at;
-    more.late = true;
-    more
+    // Puts a column's own value at a place.
+    pub fn put_own(&mut self, column: u32, at: usize)
+        requires { (1 ≤ column) × (column ≤ most_columns) }
+        ensures { (file : List ℕ) (f : Scenario) (v : Value) → Located file self.old f → BytesAt file self.old.settings.w (Some at) (some v) → open_refusal f.settings column v ≡ 0 → Located file self.new (with_own f column v) }
+    {
+        self.owns[(column - 1) as usize] = Some(at);
+    }
+
+    // Puts a message at a place.
+    pub fn put_message(&mut self, round: u32, from: u32, to: u32, at: usize)
+        requires { MessageRange round from to }
+        ensures { (file : List ℕ) (f : Scenario) (x : List ℕ) → Located file self.old f → BytesAt file (operand_size f.settings round) (Some at) (some x) → Located file self.new (with_message f (message round from to x)) }
+    {
+        self.messages[index_of_message(round, from, to)] = Some(at);
+        self.late = true;
+    }
 }

@@ -12,6 +12,8 @@ fn main(rt: HostRuntime) -> io::Result<()> {
     let mut file = [0u8; FILE_ROOM];
     let mut output = [0u8; LISTING_ROOM];
     let got = streams::read_full(&mut rt.reader(), &mut file)?;
-    let size = bench::bench(&file[..got], &mut output);
-    rt.write_all(&output[..size])
+    match bench::bench(&file[..got], &mut output) {
+        Some(size) => rt.write_all(&output[..size]),
+        None => Ok(()),
+    }
 }

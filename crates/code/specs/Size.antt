@@ -50,10 +50,6 @@ checks_room = most_checks * value_room
 abbrev pub window_room : ℕ
 window_room = most_columns + feedback_room
 
--- room for a window of each plane
-abbrev pub windows_room : ℕ
-windows_room = window_room * value_room
-
 -- a row for each place
 abbrev pub place_rows : ℕ
 place_rows = row_width * most_places

@@ -9,44 +9,41 @@ pub mod sizes;
 mod storing;
 
 ghost use Rattle.std.specs.Prelude.{◌≡◌, ◌*◌, ◌≤◌, length};
-ghost use Rattle.code.specs.Settings.{settings, settings_refusal};
+ghost use Rattle.refusal.specs.Number.{answer_of};
+ghost use Rattle.code.specs.Settings.{settings as «settings_of»};
 ghost use Rattle.code.specs.Entry.{ChecksSays, ChecksPut};
 
-use crate::sizes::GENERATOR_ROOM;
+use crate::settings::Settings;
+use field::Tables;
+use refusal::Refusal;
 
-// The check values of a vector of n values, in the first 2t·w bytes of the output: 0, or the refusal 1, 2, 3 or 18.
-pub fn check_values(n: u32, t: u32, w: u32, vector: &[u8], output: &mut [u8]) -> u32
-    ensures { ChecksSays n t w vector.now result output.old output.new }
+// The check values of a vector of n values, in the first 2t·w bytes of the output. Settings that are not allowed and other lengths are
+// refused.
+pub fn check_values(n: u32, t: u32, w: u32, vector: &[u8], output: &mut [u8]) -> Result<(), Refusal>
+    ensures { ChecksSays n t w vector.now (answer_of result) output.old output.new }
 {
-    let refusal = settings::settings_refusal(n, t, w);
-    if refusal != 0 {
-        return refusal;
+    let settings = Settings::new(n, t, w)?;
+    let columns = settings.columns();
+    let count = settings.check_count();
+    let size = settings.size();
+    if vector.len() != columns * size || output.len() < count * size {
+        return Err(Refusal::Lengths);
     }
-    let columns = n as usize;
-    let bad = t as usize;
-    let size = w as usize;
-    if vector.len() != columns * size {
-        return 18;
-    }
-    if output.len() < 2 * bad * size {
-        return 18;
-    }
-    put_checks(columns, bad, size, vector, output);
-    0
+    put_checks(settings, vector, output);
+    Ok(())
 }
 
-// The check values of a vector whose settings and lengths are right.
-fn put_checks(n: usize, t: usize, w: usize, vector: &[u8], output: &mut [u8])
-    requires { (settings_refusal (settings n t w) ≡ 0) × (length vector.now ≡ n * w) × (2 * t * w ≤ length output.old) }
-    ensures { ChecksPut (settings n t w) vector.now output.old output.new }
+// The same where the lengths are known to be right.
+pub fn put_checks(settings: Settings, vector: &[u8], output: &mut [u8])
+    requires { (length vector.now ≡ settings.n * settings.w) × (2 * settings.t * settings.w ≤ length output.old) }
+    ensures { ChecksPut (settings_of settings.n settings.t settings.w) vector.now output.old output.new }
 {
-    let powers = field::powers();
-    let logarithms = field::logarithms();
-    let roots = roots::roots();
-    let count = 2 * t;
-    let mut generator = [0u8; GENERATOR_ROOM];
-    generator::generator(&powers, &logarithms, &roots, count, &mut generator);
-    let feedback = generator::feedback(&powers, &logarithms, &generator, count);
-    let windows = division::divide(&feedback, count, vector, n, w);
-    storing::store(&windows, n, count, w, output);
+    let n = settings.columns();
+    let size = settings.size();
+    let count = settings.check_count();
+    let tables = Tables::new();
+    let generator = generator::generator(&tables, &roots::roots(), count);
+    let feedback = generator::feedback(&tables, &generator, count);
+    let windows = division::divide(&feedback, count, vector, n, size);
+    storing::store(&windows, n, count, size, output);
 }

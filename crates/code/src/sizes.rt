@@ -37,8 +37,6 @@ pub const CHECKS_ROOM: usize = MOST_CHECKS * VALUE_ROOM;
 // The bytes that a plane's register moves through: one for each column, and what it feeds back behind the last.
 pub const WINDOW_ROOM: usize = MOST_COLUMNS + FEEDBACK_ROOM;
 
-pub const WINDOWS_ROOM: usize = WINDOW_ROOM * VALUE_ROOM;
-
 // A row for each place, and one for each check.
 pub const PLACE_ROWS: usize = ROW_WIDTH * MOST_PLACES;
 

@@ -1,6 +1,6 @@
 -- What `result` answers: the values and confidences of the record, and what rounds two and three told, cut to the columns that there are
 -- and zeros behind them. Read again they are what the column holds. Byte for byte, by lists that agree at every place. Assumes nothing.
-use mathlib.Core.Path.{◌≡◌, sym, ◌∙◌, ap, ap₂, subst}
+use mathlib.Core.Path.{◌≡◌, refl, sym, ◌∙◌, ap, ap₂, subst}
 use mathlib.Core.List.{List, []}
 use Prim.Native.Nat.{ℕ, ◌*◌, ◌≤◌, ◌<◌}
 use native.Mathlib.Omega.{arith}
@@ -24,6 +24,9 @@ use Rattle.record.specs.View.{settings_of, who_in, view}
 use Rattle.record.specs.Stored.{no_holdings}
 use Rattle.record.specs.declared.Column.{Column}
 use Rattle.record.specs.declared.Holdings.{Holdings}
+use Rattle.std.specs.Prelude.{Ok}
+use Rattle.column.specs.Answer.{holdings_of}
+use Rattle.column.specs.declared.holdings.Verdict.{Verdict}
 use Rattle.record.proofs.Front.{cut_front}
 use Rattle.record.proofs.Refusal.{ask_round}
 use Rattle.record.proofs.View.{found_held, found_two, found_three}
@@ -83,35 +86,27 @@ stores_alike {s} {hs} {gs} {vs} {us} {cs} {ks} e f g x =
     (subst (λ (y : List ℕ). StoresHeld s gs y cs) (sym f) (subst (λ (y : List ℕ). StoresHeld s gs us y) (sym g) x))
 
 -- refused, nothing is handed out
-pub refused_says : (c : Column) (a : ℕ) (h : Holdings) → a ≡ ask_refusal (view c) → (a ≡ 0 → ⊥) → Fronts a c.found 0 0 h → ResultSays c h
-unfolding Fronts padded in_front no_holdings
-refused_says c a h e z fronts =
-    let same : h.answer ≡ a = ap (λ (x : Holdings). x.answer) fronts in
-    record {
-      answered = same ∙ e;
-      done = λ f. absurd (z (sym same ∙ f));
-      two = λ f. absurd (z (sym same ∙ f));
-      three = λ f. absurd (z (sym same ∙ f));
-      refused = λ f. fronts ∙ ap no_holdings (sym same);
-    }
+pub refused_says : (c : Column) (a : ℕ) → a ≡ ask_refusal (view c) → (a ≡ 0 → ⊥) → ResultSays c (no_holdings a)
+unfolding no_holdings
+refused_says c a e z =
+    record { answered = e; done = λ f. absurd (z f); two = λ f. absurd (z f); three = λ f. absurd (z f); refused = λ f. refl }
 
 -- in round four, what the column has found
 pub done_says :
-    (c : Column) (size : ℕ) (h : Holdings) → ask_refusal (view c) ≡ 0 → size ≡ c.who.n * c.who.w → size ≤ length c.found.values →
-    c.who.n ≤ length c.found.confidences → Fronts 0 c.found size c.who.n h → ResultSays c h
+    (c : Column) (v : Verdict) → ask_refusal (view c) ≡ 0 → c.who.n * c.who.w ≤ length c.found.values →
+    c.who.n ≤ length c.found.confidences → Fronts c.found (c.who.n * c.who.w) c.who.n v → ResultSays c (holdings_of (Ok v))
 unfolding Fronts view who_in who_as settings_of settings value_size
-done_says c size h e whole room many fronts =
+done_says c v e room many fronts =
     let s = settings_of c.who in
     let f = c.found in
     let four = ask_round (view c) e in
-    let same : h.answer ≡ 0 = ap (λ (x : Holdings). x.answer) fronts in
     record {
-      answered = same ∙ sym e;
+      answered = sym e;
       done = λ z.
           stores_alike (found_held s c.round f (omega arith))
-          (ap (λ (x : Holdings). x.values) fronts ∙ ap (λ (k : ℕ). padded vector_room (take k f.values)) whole) (ap (λ (x : Holdings). x.confidences) fronts)
-          (result_stores s f.values f.confidences (omega arith) many);
-      two = λ z. ap (λ (x : Holdings). x.told_two) fronts ∙ ap (padded most_columns) (sym (found_two s c.round f (omega arith)));
-      three = λ z. ap (λ (x : Holdings). x.told_three) fronts ∙ ap (padded most_columns) (sym (found_three s c.round f (omega arith)));
-      refused = λ z. absurd (z same);
+          (ap (λ (x : Verdict). x.values) fronts) (ap (λ (x : Verdict). x.confidences) fronts)
+          (result_stores s f.values f.confidences room many);
+      two = λ z. ap (λ (x : Verdict). x.told_two) fronts ∙ ap (padded most_columns) (sym (found_two s c.round f (omega arith)));
+      three = λ z. ap (λ (x : Verdict). x.told_three) fronts ∙ ap (padded most_columns) (sym (found_three s c.round f (omega arith)));
+      refused = λ z. absurd (z refl);
     }

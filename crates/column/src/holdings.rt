@@ -1,41 +1,50 @@
 // What a column has found, as the result hands it out.
-ghost use Rattle.std.specs.Prelude.{◌≡◌, ◌≤◌, take};
+ghost use Rattle.std.specs.Prelude.{◌≡◌, ◌*◌, ◌≤◌, length, take};
 ghost use Rattle.arrays.specs.Array.{padded};
 ghost use Rattle.code.specs.Size.{most_columns, vector_room};
 ghost use Rattle.column.specs.Steps.Holdings.{Fronts};
 
+use code::settings::Settings;
 use code::sizes::{MOST_COLUMNS, VECTOR_ROOM};
-use record::{Findings, Holdings};
+use record::Findings;
 
-// The first bytes of an array with one for each column, zeros behind them.
-fn front(bytes: [u8; MOST_COLUMNS], many: usize) -> [u8; MOST_COLUMNS]
-    requires { many ≤ most_columns }
-    ensures { result ≡ padded most_columns (take many bytes) }
+// The values and confidences that a column ended with, and what rounds two and three told of each sender.
+#[derive(Clone, Copy)]
+pub struct Verdict {
+    pub values: [u8; VECTOR_ROOM],
+    pub confidences: [u8; MOST_COLUMNS],
+    pub told_two: [u8; MOST_COLUMNS],
+    pub told_three: [u8; MOST_COLUMNS],
+}
+
+// The first bytes of an array, zeros behind them.
+#[tactic(auto, unfolding(arrays::specs::Array::padded, arrays::specs::Array::in_front))]
+fn front<const ROOM: usize>(bytes: &[u8; ROOM], many: usize) -> [u8; ROOM]
+    requires { many ≤ ROOM }
+    ensures { result ≡ padded ROOM (take many bytes.now) }
 {
-    let mut front = [0u8; MOST_COLUMNS];
-    arrays::copy(&mut front, 0, &bytes, 0, many);
+    let mut front = [0u8; ROOM];
+    front[..many].copy_from_slice(&bytes[..many]);
     front
 }
 
-// So many bytes of the values, and so many of each list, zeros behind them.
-pub fn fronts(answer: u32, found: Findings, size: usize, many: usize) -> Holdings
-    requires { (size ≤ vector_room) × (many ≤ most_columns) }
-    ensures { Fronts answer found size many result }
-{
-    let held = found.values;
-    let mut values = [0u8; VECTOR_ROOM];
-    arrays::copy(&mut values, 0, &held, 0, size);
-    let sure = found.confidences;
-    let two = found.told_two;
-    let three = found.told_three;
-    let confidences = front(sure, many);
-    let told_two = front(two, many);
-    let told_three = front(three, many);
-    Holdings {
-        answer,
-        values,
-        confidences,
-        told_two,
-        told_three,
+impl Verdict {
+    // The values of the columns that there are, and so many of each list.
+    #[tactic(auto, unfolding(crate::specs::Steps::Holdings::Fronts))]
+    pub fn of(found: &Findings, settings: Settings) -> Self
+        ensures fronts { Fronts found.now (settings.n * settings.w) settings.n result }
+        ensures long { (length found.now.values ≡ vector_room) × (length found.now.confidences ≡ most_columns) }
+    {
+        let many = settings.columns();
+        let values = front(&found.values, record::vector_size(settings));
+        let confidences = front(&found.confidences, many);
+        let told_two = front(&found.told_two, many);
+        let told_three = front(&found.told_three, many);
+        Verdict {
+            values,
+            confidences,
+            told_two,
+            told_three,
+        }
     }
 }

@@ -44,13 +44,6 @@ marked_all a b marks now long w =
           ∙ ap (◌&&◌ (eqb (get_or marks k 0) 0)) (xor_same (get_or a k 0) (get_or b k 0));
     }
 
--- all counts after one more row
-pub counted_all :
-    (marks times now : List ℕ) → length times ≡ most_columns →
-    Written 0 most_columns (λ k. get_or times k 0 + cond (eqb (get_or marks k 0) 0) 1 0) times now → CountedOn marks times now
-counted_all marks times now long w =
-    record { long = w.long ∙ long; each = λ k h. ap (λ (i : ℕ). get_or now i 0) (let e : k ≡ 0 + k = omega arith in e) ∙ w.new k h }
-
 -- one more byte
 same_last : (us vs : List ℕ) (u v : ℕ) → length us ≡ length vs → same (us ++ (u ∷ [])) (vs ++ (v ∷ [])) ≡ (same us vs && eqb u v)
 unfolding same

@@ -1,6 +1,6 @@
-pub mod Bytewise
 pub mod Placed
 pub mod Planes
+pub mod Bytewise
 pub mod Alike
 pub mod Best
 pub mod Settling

@@ -12,7 +12,7 @@ use borrow.Author.Count.{below_more}
 use Rattle.arrays.specs.Array.{in_front, padded, Written}
 use Rattle.arrays.proofs.Padded.{padded_at, padded_more}
 use Rattle.arrays.proofs.Zeros.{zeros_at}
-use Rattle.code.specs.Settings.{Settings, value_size}
+use Rattle.code.specs.Settings.{Settings, settings, value_size}
 use Rattle.code.specs.Size.{most_columns, value_room, vector_room}
 use Rattle.code.specs.Vector.{cut, glued}
 use Rattle.code.specs.Entry.{values_in}
@@ -110,9 +110,6 @@ module _ (w n : ℕ) (f : ℕ → Value) (bytes : List ℕ) (a : Placed w n f by
       ext_get_or 0 (entries w 0 _) (f j) (entries_length w 0 _ ∙ sym (a.sizes j h))
       (λ p m. (let k : p < w = rw (entries_length w 0 (λ q. get_or bytes (j * w + q) 0)) at m in entries_of w p _ 0 k ∙ a.each j p h k))))
 
-  placed_at : (j : ℕ) → j < n → get_or (cut n w bytes) j [] ≡ f j
-  placed_at j h = ap (λ (vs : List Value). get_or vs j []) placed_cut ∙ entries_of n j f [] h
-
   placed_bytes : bytes ≡ padded vector_room (glued (entries n 0 f))
   unfolding padded
   placed_bytes =
@@ -126,6 +123,15 @@ unfolding values_in
 placed_stores s f bytes a fits =
     record { bytes = placed_bytes (value_size s) s.n f bytes a fits; reads = placed_cut (value_size s) s.n f bytes a fits }
 
+-- the same values of other settings with values of that size
+pub stores_as :
+    (n t w : ℕ) (f g : ℕ → Value) (bytes : List ℕ) → ((j : ℕ) → j < n → f j ≡ g j) → Stores (settings n 0 w) (entries n 0 f) bytes →
+    Stores (settings n t w) (entries n 0 g) bytes
+unfolding settings value_size values_in
+stores_as n t w f g bytes e a =
+    let alike = entries_alike n 0 f g (λ j l. e j (omega arith)) in
+    record { bytes = a.bytes ∙ ap (λ (vs : List Value). padded vector_room (glued vs)) alike; reads = a.reads ∙ alike }
+
 -- values with their confidences
 pub held_values_entries : (n i : ℕ) (h : ℕ → Held) → held_values (entries n i h) ≡ entries n i (λ j. (h j).value)
 unfolding held_values entries
@@ -137,21 +143,19 @@ unfolding held_confidences entries
 held_confidences_entries zero i h = refl
 held_confidences_entries (suc n) i h = ap (◌∷◌ (h i).confidence) (held_confidences_entries n (suc i) h)
 
-pub placed_held :
-    (s : Settings) (h : ℕ → Held) (values confidences : List ℕ) → Placed (value_size s) s.n (λ j. (h j).value) values →
-    confidences ≡ padded most_columns (entries s.n 0 (λ j. (h j).confidence)) → s.n * value_size s ≤ vector_room →
-    StoresHeld s (entries s.n 0 h) values confidences
+pub stores_held :
+    (s : Settings) (h : ℕ → Held) (values confidences : List ℕ) → Stores s (entries s.n 0 (λ j. (h j).value)) values →
+    confidences ≡ padded most_columns (entries s.n 0 (λ j. (h j).confidence)) → StoresHeld s (entries s.n 0 h) values confidences
 unfolding held_in held_as values_in
-placed_held s h values confidences a e fits =
+stores_held s h values confidences a e =
     record {
-      value_bytes =
-          placed_bytes (value_size s) s.n _ values a fits
-          ∙ ap (λ (vs : List Value). padded vector_room (glued vs)) (sym (held_values_entries s.n 0 h));
+      value_bytes = a.bytes ∙ ap (λ (vs : List Value). padded vector_room (glued vs)) (sym (held_values_entries s.n 0 h));
       confidence_bytes = e ∙ ap (padded most_columns) (sym (held_confidences_entries s.n 0 h));
-      reads =
-          entries_alike s.n 0 _ h
-          (λ j l. (let k : j < s.n = omega arith in ap₂ held_as (placed_at (value_size s) s.n _ values a fits j k) (confidence j k)));
+      reads = entries_alike s.n 0 _ h (λ j l. (let k : j < s.n = omega arith in ap₂ held_as (value j k) (confidence j k)));
     }
   where
+    value : (j : ℕ) → j < s.n → get_or (cut s.n (value_size s) values) j [] ≡ (h j).value
+    value j k = ap (λ (vs : List Value). get_or vs j []) a.reads ∙ entries_of s.n j _ [] k
+
     confidence : (j : ℕ) → j < s.n → get_or confidences j 0 ≡ (h j).confidence
     confidence j k = ap (λ (cs : List ℕ). get_or cs j 0) e ∙ padded_at most_columns _ j ∙ entries_of s.n j _ 0 k

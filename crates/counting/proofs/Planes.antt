@@ -1,24 +1,28 @@
 -- Tables as arrays: the values, rows and columns that they hold, entry by entry; and a row put in plane by plane, which changes that row
 -- of these planes, and nothing else. Assumes nothing.
-use mathlib.Core.Path.{◌≡◌, refl, sym, ◌∙◌, ap, subst}
-use mathlib.Core.Bool.{Bool, true, false, cond}
-use mathlib.Core.List.{List, [], ◌∷◌}
+use mathlib.Core.Path.{◌≡◌, refl, sym, ◌∙◌, ap}
+use mathlib.Core.Bool.{Bool, true, false, cond, ◌&&◌}
+use mathlib.Core.List.{List, [], ◌∷◌, map}
 use Prim.Native.Nat.{ℕ, ◌+◌, ◌*◌, ◌≤◌, ◌<◌}
 use native.Mathlib.Omega.{arith}
 use native.Mathlib.Nat.{mul_comm}
 use native.Mathlib.Numerals.{add-one}
 use lib.Dec.{eqb}
-use lib.ListN.{length, get_or, drop, set, replicate, length-set, get_or-replicate}
-use lib.Seq.{drop-cons, drop-length, get_or-set_same, get_or-set_other}
+use lib.ListN.{length, get_or, take, drop, set, replicate, length-set, get_or-replicate}
+use lib.Seq.{ext_get_or, get_or-take, drop-cons, drop-length, get_or-set_same, get_or-set_other}
 use borrow.Author.Count.{below_more}
 use borrow.Author.Tests.{eqb-true, eqb-false}
+use Rattle.std.specs.List.{list_all}
+use Rattle.std.proofs.lemmas.List.{get_or-map, length-map}
+use Rattle.std.proofs.lemmas.List.Folds.{list_all-map}
+use Rattle.std.proofs.lemmas.List.Recursion.{same_from_clauses}
 use Rattle.arrays.specs.Array.{in_front, Written}
 use Rattle.arrays.proofs.Written.{written_as}
 use Rattle.arrays.proofs.Front.{written_front, front_at}
 use Rattle.code.specs.Size.{most_columns, value_room}
 use Rattle.code.specs.Vector.{plane, same, cut}
 use Rattle.code.proofs.Vectors.Cut.{plane_cut, plane_cut_length}
-use Rattle.grading.specs.Value.{Value, Rows}
+use Rattle.grading.specs.Value.{Value, Rows, is_blank}
 use Rattle.grading.specs.Count.{found, next_best, most_from}
 use Rattle.counting.specs.Steps.Table.{Planes, byte_in, value_in, row_in, rows_in, Shaped, row_plane, written_plane, RowPut}
 use Rattle.grading.proofs.Value.{entries_length, entries_of, entries_alike}
@@ -33,6 +37,23 @@ module _ (w : ℕ) (x : Planes) (i k : ℕ) where
   pub value_byte : (p : ℕ) → p < w → get_or (value_in w x i k) p 0 ≡ byte_in x p i k
   unfolding value_in
   value_byte p h = entries_of w p _ 0 h
+
+-- the value is blank where the byte of each of its planes is 0
+abbrev byte_at : (i k : ℕ) → List (List ℕ) → ℕ
+byte_at i k plane = get_or (get_or plane i []) k 0
+
+pub blank_planes : (w : ℕ) (x : Planes) (i k : ℕ) → length (take w x) ≡ w → list_all (λ plane. eqb (byte_at i k plane) 0) (take w x) ≡ is_blank (value_in w x i k)
+unfolding is_blank byte_in
+blank_planes w x i k long =
+    sym (list_all-map (λ b. eqb b 0) (byte_at i k) (take w x))
+    ∙ ap (list_all (λ b. eqb b 0)) bytes
+    ∙ same_from_clauses (list_all (λ b. eqb b 0)) is_blank (λ b rest. eqb b 0 && rest) refl (λ _ _. refl) (λ _ _. refl) (value_in w x i k)
+  where
+    bytes : map (byte_at i k) (take w x) ≡ value_in w x i k
+    bytes =
+        ext_get_or 0 _ _ (length-map (take w x) (byte_at i k) ∙ long ∙ sym (value_long w x i k))
+        (λ p l. (let h : p < w = rw (length-map (take w x) (byte_at i k), long) at l in
+        get_or-map (byte_at i k) (take w x) p [] 0 (rw long h) ∙ ap (byte_at i k) (get_or-take w x p [] h) ∙ sym (value_byte w x i k p h)))
 
 module _ (n w : ℕ) (x : Planes) where
   pub rows_length : length (rows_in n w x) ≡ n
@@ -117,9 +138,6 @@ plane_gathered n w p row old now h l g =
 
 -- a row put in, plane by plane
 module _ (i : ℕ) (f : ℕ → List ℕ) (x : Planes) where
-  pub row_put_none : Shaped x → RowPut 0 i f x x
-  row_put_none s = record { shape = s; new = λ p h. absurd (omega arith); planes_kept = λ p h. refl; rows_kept = λ p j d. refl }
-
   pub row_put_more :
       (p : ℕ) (bytes : List ℕ) (now : Planes) → RowPut p i f x now → p < value_room → i < most_columns → length bytes ≡ most_columns → bytes ≡ f p →
       RowPut (p + 1) i f x (set now p (set (get_or now p []) i bytes))
@@ -143,9 +161,6 @@ module _ (i : ℕ) (f : ℕ → List ℕ) (x : Planes) where
 
       passed : (q : ℕ) → q < p → get_or (get_or z q []) i [] ≡ f q
       passed q d = ap (λ (rows : List (List ℕ)). get_or rows i []) (plane_kept now p i bytes p_in i_in q (omega arith)) ∙ a.new q d
-
-pub row_put_to : {many k i : ℕ} {f : ℕ → List ℕ} {x now : Planes} → many ≡ k → RowPut many i f x now → RowPut k i f x now
-row_put_to {many} {k} {i} {f} {x} {now} e a = subst (λ (m : ℕ). RowPut m i f x now) e a
 
 module _ (n w i : ℕ) (x now : Planes) where
   -- it has the values of the row that was written

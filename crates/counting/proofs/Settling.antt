@@ -16,6 +16,7 @@ use Rattle.grading.proofs.Value.{zeros_blank, differ_of_not_same}
 use Rattle.grading.proofs.Count.{found_entry, found_le, found_two}
 use Rattle.grading.proofs.Most.{Leading, next_takes, better_filled, most_found}
 use Rattle.counting.specs.Steps.Table.{Planes, value_in, rows_in}
+use Rattle.counting.specs.declared.leaders.Standing.{Standing}
 use Rattle.counting.specs.Steps.Tally.{counted, best_in, leading, Live, Settled, Weighed}
 use Rattle.counting.proofs.Planes.{rows_length, value_at, rows_none, most_on}
 use Rattle.counting.proofs.Best.{better_counted, next_by}
@@ -152,22 +153,19 @@ module _ (n w least : ℕ) (x : Planes) (k : ℕ) (some : 1 ≤ least) where
         go false e = rw (counted_filled k m (rows_in n w x) e) (here e (same v m) refl)
 
   -- after one more row, a column is settled or goes on
-  pub weighed_next : (inside : k < n) (c row times row_now times_now live : ℕ) → Next n w x k inside c row times row_now times_now →
-      (live ≡ 0 → n < least + found k (value_in w x c k) (rows_in n w x)) → Weighed n w least (c + 1) x k row_now times_now live
-  weighed_next inside c row times row_now times_now live a fewer =
-      record { going = λ d. a.goes_on; settled = λ d. settled (fewer d) }
+  pub weighed_next : (inside : k < n) (c row times : ℕ) (s : Standing) → Next n w x k inside c row times s.leads.row s.leads.times →
+      (s.settled ≡ true → n < least + found k (value_in w x c k) (rows_in n w x)) → Weighed n w least (c + 1) x k s
+  weighed_next inside c row times s a fewer =
+      record { going = λ d. a.goes_on; stays = λ d. settled (fewer d) }
     where
       b : Value
-      b = leading w x k row_now times_now
+      b = leading w x k s.leads.row s.leads.times
 
       leads : is_blank (value_in w x c k) ≡ false → Leading k (rows_in n w x) (value_in w x c k) b
       leads e = rw a.value (next_takes k (rows_in n w x) (value_in w x c k) (leading w x k row times) e)
 
-      settled : n < least + found k (value_in w x c k) (rows_in n w x) → Settled n w least x k row_now times_now
+      settled : n < least + found k (value_in w x c k) (rows_in n w x) → Settled n w least x k s.leads.row s.leads.times
       settled f =
           let e = a.goes_on.count in
-          settled_by row_now times_now a.goes_on.inside e (λ l. settle_often (value_in w x c k) b f leads (omega arith))
+          settled_by s.leads.row s.leads.times a.goes_on.inside e (λ l. settle_often (value_in w x c k) b f leads (omega arith))
           (λ l. settle_seldom (value_in w x c k) b f leads (omega arith))
-
-  pub weighed_still : (c row times live : ℕ) → live ≡ 0 → Weighed n w least c x k row times live → Weighed n w least (c + 1) x k row times live
-  weighed_still c row times live e a = record { going = λ d. absurd (d e); settled = a.settled }

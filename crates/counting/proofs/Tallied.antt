@@ -16,7 +16,8 @@ use Rattle.grading.specs.Count.{found, most, agreed_least, sure_least, likely_le
 use Rattle.grading.proofs.Value.{blank_size}
 use Rattle.grading.proofs.Most.{most_is}
 use Rattle.counting.specs.Steps.Table.{Planes, value_in, rows_in}
-use Rattle.counting.specs.Steps.Tally.{best_in, Settled, confidence_by}
+use Rattle.counting.specs.declared.leaders.Counted.{Counted}
+use Rattle.counting.specs.Steps.Tally.{best_in, Settled, value_from, confidence_by}
 use Rattle.counting.proofs.Planes.{value_long, rows_length, value_at}
 use Rattle.counting.proofs.Settling.{counted_filled, counted_some}
 
@@ -25,6 +26,16 @@ blank_of : (v : Value) → is_blank v ≡ true → v ≡ replicate (length v) 0
 unfolding is_blank
 blank_of [] e = refl
 blank_of (x ∷ v) e = let both = and_split (eqb x 0) (is_blank v) e in ap₂ ◌∷◌ (eqb-true x 0 both.0) (blank_of v both.1)
+
+-- the value that leads a column is an entry that it is where it is found so often, and that is blank where it is found less often
+value_over : (w least : ℕ) (x : Planes) (k : ℕ) (v : Counted) (u : Value) → (least ≤ v.times → value_in w x v.row k ≡ u) →
+    (v.times < least → u ≡ replicate w 0) → value_from w least x k v ≡ u
+unfolding value_from
+value_over w least x k v u often seldom = go (leb least v.times) refl
+  where
+    go : (q : Bool) → leb least v.times ≡ q → cond q (value_in w x v.row k) (replicate w 0) ≡ u
+    go true e = often (leb-true least v.times e)
+    go false e = sym (seldom (leb-false least v.times e))
 
 module _ (n t w : ℕ) (x : Planes) (k : ℕ) (inside : k < n) where
   abbrev s : Settings
@@ -48,13 +59,13 @@ module _ (n t w : ℕ) (x : Planes) (k : ℕ) (inside : k < n) where
   agreed_as = refl
 
   module _ (row times : ℕ) (a : Settled n w (n - t) x k row times) where
-    pub agreed_often : t < n → n - t ≤ times → value_in w x row k ≡ agreed_at s rows k
+    agreed_often : t < n → n - t ≤ times → value_in w x row k ≡ agreed_at s rows k
     agreed_often some h =
         let e = a.count h in
         let filled = counted_some k m rows (omega arith) in
         a.value h ∙ sym (agreed_as ∙ rw (le-leb (n - t) (found k m rows) (omega (arith, counted_filled k m rows filled))) refl)
 
-    pub agreed_seldom : times < n - t → agreed_at s rows k ≡ replicate w 0
+    agreed_seldom : times < n - t → agreed_at s rows k ≡ replicate w 0
     agreed_seldom h = agreed_as ∙ go (is_blank m) refl
       where
         either : (q : Bool) → m ≡ replicate w 0 → cond q m (replicate w 0) ≡ replicate w 0
@@ -64,6 +75,10 @@ module _ (n t w : ℕ) (x : Planes) (k : ℕ) (inside : k < n) where
         go : (q : Bool) → is_blank m ≡ q → cond (leb (n - t) (found k m rows)) m (replicate w 0) ≡ replicate w 0
         go true e = either (leb (n - t) (found k m rows)) (blank_of m e ∙ ap (λ (l : ℕ). replicate l 0) best_long)
         go false e = rw (lt-leb (n - t) (found k m rows) (omega (arith, counted_filled k m rows e, a.seldom h)))
+
+  pub agreed_value : (v : Counted) → Settled n w (n - t) x k v.row v.times → t < n → value_from w (n - t) x k v ≡ agreed_at s rows k
+  agreed_value v a some =
+      value_over w (n - t) x k v (agreed_at s rows k) (agreed_often v.row v.times a some) (agreed_seldom v.row v.times a)
 
   -- values and confidences
   held_by : held_at s rows k
@@ -98,11 +113,11 @@ module _ (n t w : ℕ) (x : Planes) (k : ℕ) (inside : k < n) where
             let f = counted_filled k m rows e in
             rw (lt-leb (2 * t + 1) (found k m rows) (omega arith), lt-leb (t + 1) (found k m rows) (omega arith))
 
-    pub held_value : t < times → value_in w x row k ≡ (held_at s rows k).value
+    held_filled : t < times → value_in w x row k ≡ (held_at s rows k).value
     unfolding held_as
-    held_value h = sym (ap (λ (r : Held). r.value) (held_often h))
+    held_filled h = sym (ap (λ (r : Held). r.value) (held_often h))
 
-    pub held_blank : times ≤ t → (held_at s rows k).value ≡ replicate w 0
+    held_blank : times ≤ t → (held_at s rows k).value ≡ replicate w 0
     unfolding held_as
     held_blank h = ap (λ (r : Held). r.value) (held_seldom h)
 
@@ -115,3 +130,7 @@ module _ (n t w : ℕ) (x : Planes) (k : ℕ) (inside : k < n) where
         go false e =
             let few = leb-false (t + 1) times e in
             rw (lt-leb (2 * t + 1) times (omega arith), e) (sym (ap (λ (r : Held). r.confidence) (held_seldom (omega arith))))
+
+  pub held_value : (v : Counted) → Settled n w (t + 1) x k v.row v.times → value_from w (t + 1) x k v ≡ (held_at s rows k).value
+  held_value v a =
+      value_over w (t + 1) x k v (held_at s rows k).value (λ h. held_filled v.row v.times a (omega arith)) (λ h. held_blank v.row v.times a (omega arith))

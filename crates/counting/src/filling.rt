@@ -10,10 +10,8 @@ pub fn put_row(table: &mut Table, i: usize, row: &[u8], n: usize, w: usize)
     requires { (i < most_columns) × (n ≤ most_columns) × (w ≤ value_room) × (n * w ≤ length row.now) × Shaped table.old }
     ensures { RowPut w i (written_plane n w row.now table.old i) table.old table.new }
 {
-    let mut p = 0;
-    while p < w {
+    for p in 0..w {
         arrays::gather(&mut table[p][i], row, w, p, n);
-        p += 1;
     }
 }
 
@@ -22,10 +20,7 @@ pub fn copy_row(table: &mut Table, i: usize, j: usize, w: usize)
     requires { (i < most_columns) × (j < most_columns) × (w ≤ value_room) × Shaped table.old }
     ensures { RowPut w i (row_plane table.old j) table.old table.new }
 {
-    let mut p = 0;
-    while p < w {
-        let plane = table[p][j];
-        table[p][i] = plane;
-        p += 1;
+    for p in 0..w {
+        table[p][i] = table[p][j];
     }
 }

@@ -7,38 +7,40 @@ ghost use Rattle.counting.specs.Steps.Table.{value_in};
 
 use code::sizes::{MOST_COLUMNS, VALUE_ROOM};
 
+// No struct that carries its shape: tried, and the proof did not close, since a literal of a struct with arrays of arrays has none.
 pub type Table = [[[u8; MOST_COLUMNS]; MOST_COLUMNS]; VALUE_ROOM];
 
-// Whether the value in row i, column k is blank.
-pub fn is_blank(table: &Table, w: usize, i: usize, k: usize) -> bool
-    requires { (w ≤ value_room) × (i < most_columns) × (k < most_columns) }
-    ensures { result ≡ is_blank (value_in w table.now i k) }
-{
-    let mut any = 0;
-    let mut p = 0;
-    while p < w {
-        any |= table[p][i][k];
-        p += 1;
-    }
-    any == 0
+// A table of n rows, each of n values of w bytes.
+#[derive(Clone, Copy)]
+pub struct Rows<'a> {
+    pub table: &'a Table,
+    pub n: usize,
+    pub w: usize,
+    pub ghost fits: { (n ≤ most_columns) × (w ≤ value_room) },
 }
 
-// Whether of the values in rows i and j of column k the first has the smaller bytes.
-pub fn is_before(table: &Table, w: usize, i: usize, j: usize, k: usize) -> bool
-    requires { (w ≤ value_room) × (i < most_columns) × (j < most_columns) × (k < most_columns) }
-    ensures { result ≡ bytes_before (value_in w table.now i k) (value_in w table.now j k) }
-{
-    let mut p = 0;
-    while p < w {
-        let a = table[p][i][k];
-        let b = table[p][j][k];
-        if a < b {
-            return true;
-        }
-        if b < a {
-            return false;
-        }
-        p += 1;
+impl Rows<'_> {
+    // Whether the value in row i, column k is blank.
+    pub fn is_blank(&self, i: usize, k: usize) -> bool
+        requires { (i < most_columns) × (k < most_columns) }
+        ensures { result ≡ is_blank (value_in self.now.w self.now.table.now i k) }
+    {
+        let table = self.table;
+        table[..self.w].iter().all(|plane| plane[i][k] == 0)
     }
-    false
+
+    // Whether of the values in rows i and j of column k the first has the smaller bytes.
+    pub fn is_before(&self, i: usize, j: usize, k: usize) -> bool
+        requires { (i < most_columns) × (j < most_columns) × (k < most_columns) }
+        ensures { result ≡ bytes_before (value_in self.now.w self.now.table.now i k) (value_in self.now.w self.now.table.now j k) }
+    {
+        for p in 0..self.w {
+            let a = self.table[p][i][k];
+            let b = self.table[p][j][k];
+            if a != b {
+                return a < b;
+            }
+        }
+        false
+    }
 }

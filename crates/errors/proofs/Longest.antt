@@ -24,9 +24,6 @@ pub record LongestTo (p : ℕ) (numbers : List ℕ) (most : ℕ) : Type 0 where
   pub above : (q : ℕ) → q < p → get_or numbers q 0 ≤ most
   pub least : (k : ℕ) → ((q : ℕ) → get_or numbers q 0 ≤ k) → most ≤ k
 
-pub longest_whole : (p : ℕ) (numbers : List ℕ) (most : ℕ) → length numbers ≡ value_room → p ≡ value_room → LongestTo p numbers most → Longest numbers most
-longest_whole p numbers most e q l = record { above = all_numbers numbers most e (λ k h. l.above k (omega arith)); least = l.least }
-
 -- as many coefficients as the longest polynomial has are a plane's own, and zeros behind them
 pub same_coefficients :
     (most t : ℕ) (rows roots : List ℕ) → Fits t rows roots → Longest roots most → (p : ℕ) → p < value_room →

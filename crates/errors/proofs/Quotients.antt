@@ -13,7 +13,7 @@ use lib.Dec.{eqb}
 use lib.ListN.{length, get_or, drop, get_or-eq_default}
 use lib.Seq.{get_or-drop, drop-length}
 use borrow.Author.Tests.{eq-eqb, ne_eqb}
-use Rattle.arrays.specs.Array.{all_zero, Written}
+use Rattle.arrays.specs.Array.{all_zero, Filled, Written}
 use Rattle.arrays.proofs.Zeros.{zero_at}
 use Rattle.field.specs.Field.{plus, times, power, inverse}
 use Rattle.field.proofs.Xor.{plus_zero}
@@ -31,9 +31,7 @@ use Rattle.locator.proofs.Polynomials.Steps.{against_drop}
 use Rattle.locator.proofs.Polynomials.Fraction.{against_ext, evaluator, evaluator_at, evaluator_value, odd_terms, odd_term, derivative_value}
 use Rattle.errors.specs.Roots.{Longest, Fits, polynomial}
 use Rattle.errors.specs.Fractions.{told, Numerators, Slopes, fraction, first_told}
-use Rattle.errors.specs.Errors.{ErrorsPut}
 use Rattle.errors.proofs.Longest.{same_coefficients}
-use Rattle.errors.proofs.Told.{put_as}
 
 -- one row of numerators, by the coefficients behind the m-th
 module _ (size d : ℕ) (rows sums numerators : List ℕ) where
@@ -52,61 +50,35 @@ module _ (size d : ℕ) (rows sums numerators : List ℕ) where
           ∙ drop-length (lane p (size + 1) rows))
 
   pub summed_more :
-      (m : ℕ) (middle now : List ℕ) → d < m → m ≤ size → SummedFrom m middle →
+      (m k : ℕ) (middle now : List ℕ) → m ≡ k + 1 → d ≤ k → k < size → SummedFrom m middle →
       Written (row_width * d) row_width
-      (λ p. plus (times (get_or rows (row_width * m + p) 0) (get_or sums (row_width * (m - 1 - d) + p) 0)) (get_or middle (row_width * d + p) 0)) middle now →
-      SummedFrom (m - 1) now
-  summed_more m middle now h l v w =
+      (λ p. plus (times (get_or rows (row_width * (k + 1) + p) 0) (get_or sums (row_width * (k - d) + p) 0)) (get_or middle (row_width * d + p) 0)) middle now →
+      SummedFrom k now
+  summed_more m k middle now e h l v w =
       record {
         long = w.long ∙ v.long;
-        new = λ p k. w.new p k ∙ ap (plus _) (v.new p k) ∙ sym (next p);
-        before = λ i k. w.before i k ∙ v.before i k;
-        after = λ i k. w.after i k ∙ v.after i k;
+        new = λ p g. w.new p g ∙ ap (plus _) (v.new p g) ∙ sym (next p);
+        before = λ i g. w.before i g ∙ v.before i g;
+        after = λ i g. w.after i g ∙ v.after i g;
       }
     where
       next :
           (p : ℕ) →
-          against (drop (suc (m - 1)) (lane p (size + 1) rows)) (λ i. get_or sums (in_row i p) 0) (m - 1 - d)
-          ≡ plus (times (get_or rows (in_row m p) 0) (get_or sums (in_row (m - 1 - d) p) 0))
+          against (drop (suc k) (lane p (size + 1) rows)) (λ i. get_or sums (in_row i p) 0) (k - d)
+          ≡ plus (times (get_or rows (in_row (k + 1) p) 0) (get_or sums (in_row (k - d) p) 0))
           (against (drop (suc m) (lane p (size + 1) rows)) (λ i. get_or sums (in_row i p) 0) (m - d))
       next p =
           let S : ℕ → ℕ = λ i. get_or sums (in_row i p) 0 in
           let ps = lane p (size + 1) rows in
-          ap (λ (k : ℕ). against (drop k ps) S (m - 1 - d)) (let e : suc (m - 1) ≡ m = omega arith in e)
-          ∙ against_drop ps m (omega (arith, lane_length p (size + 1) rows)) S (m - 1 - d)
-          ∙ ap₂ (λ (b a : ℕ). plus (times b (S (m - 1 - d))) a) (lane_at p (size + 1) rows m (omega arith))
-          (ap (against (drop (suc m) ps) S) (let e : suc (m - 1 - d) ≡ m - d = omega arith in e))
+          rw (e, add-one k)
+          (against_drop ps (suc k) (omega (arith, lane_length p (size + 1) rows)) S (k - d)
+          ∙ ap₂ (λ (b a : ℕ). plus (times b (S (k - d))) a) (lane_at p (size + 1) rows (suc k) (omega arith))
+          (ap (against (drop (suc (suc k)) ps) S) (let q : suc (k - d) ≡ suc k - d = omega arith in q)))
 
-  pub summed_whole :
-      (m : ℕ) (now : List ℕ) → m ≡ d → SummedFrom m now →
-      Written (row_width * d) row_width (λ p. against (drop (suc d) (lane p (size + 1) rows)) (λ i. get_or sums (in_row i p) 0) 0) numerators now
-  summed_whole m now e v =
-      record {
-        long = v.long;
-        new = λ p h.
-            v.new p h
-            ∙ ap₂ (λ (k j : ℕ). against (drop (suc k) (lane p (size + 1) rows)) (λ i. get_or sums (in_row i p) 0) j) e (let q : m - d ≡ 0 = omega arith in q);
-        before = v.before;
-        after = v.after;
-      }
-
--- no row of numerators, and one more
+-- no row of numerators
 pub numerators_none :
     (size : ℕ) (rows sums zeros : List ℕ) → length zeros ≡ locator_rows → all_zero zeros ≡ true → Numerators 0 size rows sums zeros
 numerators_none size rows sums zeros e z = record { long = e; each = λ d p h l. absurd (omega arith); ahead = λ i h. zero_at zeros z i }
-
-pub numerators_more :
-    (d size : ℕ) (rows sums numerators now : List ℕ) → Numerators d size rows sums numerators →
-    Written (row_width * d) row_width (λ p. against (drop (suc d) (lane p (size + 1) rows)) (λ i. get_or sums (in_row i p) 0) 0) numerators now →
-    Numerators (d + 1) size rows sums now
-numerators_more d size rows sums numerators now n w =
-    record { long = w.long ∙ n.long; each = λ i p h l. go i p h l (dec_lt i d); ahead = λ i h. w.after i (omega arith) ∙ n.ahead i (omega arith) }
-  where
-    go :
-        (i p : ℕ) → i < d + 1 → p < row_width → Dec (i < d) →
-        get_or now (in_row i p) 0 ≡ against (drop (suc i) (lane p (size + 1) rows)) (λ k. get_or sums (in_row k p) 0) 0
-    go i p h l (yes a) = w.before _ (omega arith) ∙ n.each i p a l
-    go i p h l (no a) = let e : i ≡ d = omega arith in rw e (w.new p l)
 
 -- the first sum is a byte
 pub first_told_lt : (rows sums : List ℕ) (p : ℕ) → get_or sums p 0 < 256 → first_told rows sums p < 256
@@ -117,21 +89,20 @@ first_told_lt rows sums p h = go (eqb (get_or rows (row_width + p) 0) 0)
     go false = h
 
 -- both polynomials' values, divided
-pub fraction_put :
-    (size e twice at : ℕ) (numerators slopes above_before above below_before below marks weighted : List ℕ) → power 2 twice ≡ power 2 (e + e) →
-    Written 0 row_width (λ p. eval (lane p size numerators) (power 2 e)) above_before above →
-    Written 0 row_width (λ p. eval (lane p ((size + 1) / 2) slopes) (power 2 twice)) below_before below →
-    ErrorsPut value_room at (λ p. times (get_or above p 0) (inverse (get_or below p 0))) marks weighted →
-    ErrorsPut value_room at (λ p. fraction numerators slopes size p e) marks weighted
-fraction_put size e twice at numerators slopes above_before above below_before below marks weighted q a b w =
-    put_as value_room at _ _ marks weighted
-    (λ p h.
-    ap₂ (λ (y z : ℕ). times y (inverse z)) (at_start p above ∙ a.new p (omega arith))
-    (at_start p below ∙ b.new p (omega arith) ∙ ap (eval (lane p ((size + 1) / 2) slopes)) q))
-    w
-  where
-    at_start : (p : ℕ) (bs : List ℕ) → get_or bs p 0 ≡ get_or bs (0 + p) 0
-    at_start p bs = ap (λ (i : ℕ). get_or bs i 0) (let i : p ≡ 0 + p = omega arith in i)
+pub fractions_filled :
+    (size half e twice : ℕ) (numerators slopes above below errors : List ℕ) → half ≡ (size + 1) / 2 → power 2 twice ≡ power 2 (e + e) →
+    Filled row_width row_width (λ p. eval (lane p size numerators) (power 2 e)) above →
+    Filled row_width row_width (λ p. eval (lane p half slopes) (power 2 twice)) below →
+    Filled value_room value_room (λ p. times (get_or above p 0) (inverse (get_or below p 0))) errors →
+    Filled value_room value_room (λ p. fraction numerators slopes size p e) errors
+fractions_filled size half e twice numerators slopes above below errors d q a b w =
+    record {
+      long = w.long;
+      new = λ p h.
+          w.new p h
+          ∙ ap₂ (λ (y z : ℕ). times y (inverse z)) (a.new p (omega arith))
+          (b.new p (omega arith) ∙ ap₂ (λ (k x : ℕ). eval (lane p k slopes) x) d q);
+    }
 
 -- the fraction of a plane is what its own polynomial tells
 module _ (size t : ℕ) (rows sums roots : List ℕ) (f : Fits t rows roots) (m : Longest roots size) (row_byte : (i : ℕ) → get_or rows i 0 < 256)

@@ -10,14 +10,9 @@ pub fn longest(roots: [u8; VALUE_ROOM]) -> usize
     requires { length roots ≡ value_room }
     ensures { Longest roots result }
 {
-    let mut most = 0;
-    let mut p = 0;
-    while p < VALUE_ROOM {
-        let size = roots[p] as usize;
-        if most < size {
-            most = size;
-        }
-        p += 1;
+    let mut most = 0u8;
+    for size in roots.iter() {
+        most = most.max(*size);
     }
-    most
+    usize::from(most)
 }

@@ -8,8 +8,7 @@ use Prim.Native.Nat.{ℕ, ◌+◌, ◌*◌, ◌-◌, ◌≤◌, ◌<◌}
 use native.Mathlib.Omega.{arith}
 use native.Mathlib.Nat.{zero-add}
 use native.Mathlib.Decide.{ℕ_discrete, dec_le}
-use lib.ListN.{length, get_or, set, length-set}
-use lib.Seq.{get_or-set_same, get_or-set_other}
+use lib.ListN.{length, get_or}
 use borrow.Author.Tests.{lt-ltb, le-ltb}
 use Rattle.arrays.specs.Array.{all_zero, Written}
 use Rattle.arrays.proofs.Zeros.{zero_at}
@@ -74,22 +73,6 @@ pub record Lengthened (a : ℕ) (logarithms long : List ℕ) : Type 0 where
   pub many : length long ≡ 256
   pub none : get_or long 0 0 ≡ no_exponent
   pub entry : (b : ℕ) → 1 ≤ b → b < a → get_or long b 0 ≡ get_or logarithms b 0
-
-pub lengthened_none : (logarithms long : List ℕ) → length long ≡ 256 → get_or long 0 0 ≡ no_exponent → Lengthened 1 logarithms long
-lengthened_none logarithms long e f = record { many = e; none = f; entry = λ b h l. absurd (omega arith) }
-
-pub lengthened_more :
-    (a v : ℕ) (logarithms long : List ℕ) → Lengthened a logarithms long → 1 ≤ a → a < 256 → v ≡ get_or logarithms a 0 → Lengthened (a + 1) logarithms (set long a v)
-lengthened_more a v logarithms long w h l e =
-    record {
-      many = length-set long a v ∙ w.many;
-      none = get_or-set_other long a 0 v 0 (omega arith) ∙ w.none;
-      entry = λ b m n. go b m n (ℕ_discrete b a);
-    }
-  where
-    go : (b : ℕ) → 1 ≤ b → b < a + 1 → Dec (b ≡ a) → get_or (set long a v) b 0 ≡ get_or logarithms b 0
-    go b m n (yes f) = rw f (get_or-set_same long a v 0 (omega (arith, w.many)) ∙ e)
-    go b m n (no f) = get_or-set_other long a b v 0 (omega arith) ∙ w.entry b m (omega arith)
 
 pub lengthened_all : (a : ℕ) (logarithms long : List ℕ) → 256 ≤ a → Logarithms logarithms → Lengthened a logarithms long → LongLogarithms long
 unfolding ExponentOf

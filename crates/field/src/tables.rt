@@ -1,7 +1,11 @@
 // The field's two constant tables, each with the rule that holds over the whole of it.
 //
-// A function that names a constant table copies it at each call: a loop asks for a table once and lends it down.
+// A function that names a constant table copies it at each call: a loop makes both once and lends them down.
+ghost use Rattle.std.specs.Prelude.{◌≡◌, ◌≤◌, ◌<◌};
+ghost use Rattle.field.specs.Field.{times, power, inverse as «inverse-of»};
 ghost use Rattle.field.specs.Table.{Powers, Logarithms};
+
+use crate::reduced;
 
 // The powers of 2, all 255 of them, each entry twice the one before.
 const POWERS: [u8; 255] = [
@@ -37,14 +41,46 @@ const LOGARITHMS: [u8; 256] = [
     246, 135, 165, 23, 58, 163, 60, 183,
 ];
 
-pub fn powers() -> [u8; 255]
-    ensures { Powers result }
-{
-    POWERS
+// Both tables.
+#[derive(Clone, Copy)]
+pub struct Tables {
+    pub powers: [u8; 255],
+    pub logarithms: [u8; 256],
+    pub ghost right: { Powers powers × Logarithms logarithms },
 }
 
-pub fn logarithms() -> [u8; 256]
-    ensures { Logarithms result }
-{
-    LOGARITHMS
+impl Tables {
+    pub fn new() -> Self {
+        Tables {
+            powers: POWERS,
+            logarithms: LOGARITHMS,
+        }
+    }
+
+    // The exponent of a byte but 0, as a power of 2.
+    fn exponent_of(&self, a: u8) -> usize
+        requires { 1 ≤ a }
+        ensures { (result < 255) × (power 2 result ≡ a) }
+    {
+        usize::from(self.logarithms[usize::from(a)])
+    }
+
+    pub fn product(&self, a: u8, b: u8) -> u8
+        ensures { result ≡ times a b }
+    {
+        if a == 0 || b == 0 {
+            return 0;
+        }
+        self.powers[reduced(self.exponent_of(a) + self.exponent_of(b))]
+    }
+
+    // The byte whose product with a is 1. Of 0, which has none, it is 0.
+    pub fn inverse(&self, a: u8) -> u8
+        ensures { result ≡ inverse-of a }
+    {
+        if a <= 1 {
+            return a;
+        }
+        self.powers[255 - self.exponent_of(a)]
+    }
 }

@@ -3,12 +3,12 @@
 use mathlib.Core.Path.{◌≡◌, refl, sym, ◌∙◌, ap, ap₂, subst}
 use mathlib.Core.Bool.{cond}
 use mathlib.Core.List.{List}
-use Prim.Native.Nat.{ℕ, suc, ◌+◌, ◌*◌, ◌-◌, ◌/◌, ◌%◌, ◌≤◌, ◌<◌}
+use Prim.Native.Nat.{ℕ, suc, ◌+◌, ◌-◌, ◌/◌, ◌%◌, ◌≤◌, ◌<◌}
 use native.Mathlib.Omega.{arith}
 use native.Mathlib.Decide.{dec_lt}
 use lib.Dec.{eqb}
 use lib.ListN.{length, get_or}
-use borrow.Author.Tests.{eq-eqb, ne_eqb}
+use borrow.Author.Tests.{ne_eqb}
 use Rattle.arrays.specs.Array.{Written}
 use Rattle.field.specs.Field.{plus, doubled, times, times_from}
 use Rattle.field.proofs.Xor.{plus_assoc, plus_lt, plus_zero}
@@ -33,27 +33,7 @@ doublings_one f rows byte m =
       next = λ k p o h l. absurd (omega arith);
     }
 
-pub doublings_more :
-    (k : ℕ) (f : ℕ → ℕ) (rows now : List ℕ) → 1 ≤ k → Doublings k f rows → Written (row_width * (k + 1)) row_width (λ p. doubled (get_or rows (in_row k p) 0)) rows now →
-    Doublings (k + 1) f now
-doublings_more k f rows now o d w =
-    record {
-      long = w.long ∙ d.long;
-      first = λ p h. w.before _ (omega arith) ∙ d.first p h;
-      next = λ i p l h g. next i p l h g (dec_lt i k);
-    }
-  where
-    next :
-        (i p : ℕ) → 1 ≤ i → i < k + 1 → p < row_width → Dec (i < k) → get_or now (in_row (i + 1) p) 0 ≡ doubled (get_or now (in_row i p) 0)
-    next i p l h g (yes a) = w.before _ (omega arith) ∙ d.next i p l a g ∙ ap doubled (sym (w.before _ (omega arith)))
-    next i p l h g (no a) =
-        let e : i ≡ k = omega arith in
-        rw e (w.new p g ∙ ap doubled (sym (w.before _ (omega arith))))
-
-pub doublings_to : {k last : ℕ} {f : ℕ → ℕ} {rows : List ℕ} → k ≡ last → Doublings k f rows → Doublings last f rows
-doublings_to {k} {last} {f} {rows} e d = subst (λ (i : ℕ). Doublings i f rows) e d
-
--- a row added or not
+-- a row that is not added
 pub added_not :
     (at bit : ℕ) (g : ℕ → ℕ) (rows : List ℕ) → bit ≡ 0 → ((i : ℕ) → get_or rows i 0 < 256) →
     Written at row_width (λ p. plus (get_or rows (at + p) 0) (cond (eqb bit 1) (g p) 0)) rows rows
@@ -67,15 +47,6 @@ added_not at bit g rows e byte =
   where
     unset : (x : ℕ) → cond (eqb bit 1) x 0 ≡ 0
     unset x = rw (ne_eqb bit 1 (λ q. omega arith))
-
-pub added_once :
-    (at bit : ℕ) (g : ℕ → ℕ) (rows now : List ℕ) → bit ≡ 1 → Written at row_width (λ p. plus (get_or rows (at + p) 0) (g p)) rows now →
-    Written at row_width (λ p. plus (get_or rows (at + p) 0) (cond (eqb bit 1) (g p) 0)) rows now
-added_once at bit g rows now e w =
-    record { long = w.long; new = λ p h. w.new p h ∙ ap (plus (get_or rows (at + p) 0)) (sym (is_set (g p))); before = w.before; after = w.after }
-  where
-    is_set : (x : ℕ) → cond (eqb bit 1) x 0 ≡ x
-    is_set x = rw (eq-eqb bit 1 e)
 
 -- bit after bit: the row with the k-th doubling and those after it still to add at the bits left
 pub record BitsLeft (k left at : ℕ) (doublings rows rows_now : List ℕ) (goal : ℕ → ℕ) : Type 0 where

@@ -2,7 +2,7 @@
 -- of rows 2w and k, so sixteen rows follow from the value. A constant is its low four bits and sixteen times its high ones, so its
 -- product is a row of the value's multiples and a row of the multiples of sixteen times the value. Small tests are computed.
 -- Assumes nothing.
-use mathlib.Core.Path.{◌≡◌, refl, sym, ◌∙◌, ap, ap₂, subst}
+use mathlib.Core.Path.{◌≡◌, sym, ◌∙◌, ap, ap₂}
 use mathlib.Core.Bool.{true}
 use mathlib.Core.List.{List}
 use mathlib.Core.Logic.{◌⊎◌, inl, inr}
@@ -100,9 +100,6 @@ plus_below w k (inr (inl e)) h = rw e (eqb→eq _ _ (below (λ m. eqb (plus 4 m)
 plus_below w k (inr (inr e)) h = rw e (eqb→eq _ _ (below (λ m. eqb (plus 8 m) (8 + m)) 8 tt k (omega arith)))
 
 -- one more row of products
-pub products_none : (value constants rows : List ℕ) → ProductsAdded 0 value constants rows rows
-products_none value constants rows = record { long = refl; sums = λ j p h l. absurd (omega arith); rest = λ i h. refl }
-
 pub products_next :
     (j : ℕ) (value constants rows so_far now : List ℕ) (g : ℕ → ℕ) → ProductsAdded j value constants rows so_far → Written (row_width * j) row_width g so_far now →
     ((p : ℕ) → p < row_width → g p ≡ plus (get_or so_far (in_row j p) 0) (times (get_or value p 0) (get_or constants j 0))) →
@@ -145,7 +142,3 @@ products_more j value constants low high rows so_far middle now byte fits l h a 
         (h.row (c / 16) p (omega arith) g
         ∙ ap (λ (x : ℕ). times (doubled x) (c / 16)) (l.row 8 p (omega arith) g))
         ∙ times_halves (get_or value p 0) c (byte p) fits
-
-pub products_to :
-    {many k : ℕ} {value constants rows now : List ℕ} → many ≡ k → ProductsAdded many value constants rows now → ProductsAdded k value constants rows now
-products_to {many} {k} {value} {constants} {rows} {now} e a = subst (λ (n : ℕ). ProductsAdded n value constants rows now) e a

@@ -1,6 +1,6 @@
 -- Both tables of a value in one array. The low half of a constant and its high half each have a row, and the two rows added are the
 -- product. Assumes nothing.
-use mathlib.Core.Path.{◌≡◌, refl, ◌∙◌, ap, ap₂, subst}
+use mathlib.Core.Path.{◌≡◌, ◌∙◌, ap, ap₂}
 use mathlib.Core.List.{List}
 use Prim.Native.Nat.{ℕ, ◌+◌, ◌*◌, ◌/◌, ◌%◌, ◌≤◌, ◌<◌}
 use native.Mathlib.Omega.{arith}
@@ -9,29 +9,8 @@ use lib.ListN.{length, get_or}
 use Rattle.arrays.specs.Array.{Written}
 use Rattle.arrays.proofs.Written.{written_as}
 use Rattle.field.specs.Field.{plus, doubled, times}
-use Rattle.lanes.specs.Lanes.{row_width, multiple_rows, table_room, in_row, Multiples, Tables, TablesPut, RowTablesPut}
+use Rattle.lanes.specs.Lanes.{row_width, multiple_rows, table_room, in_row, Tables, TablesPut, RowTablesPut}
 use Rattle.lanes.proofs.Multiples.{times_halves}
-
--- two copies, one behind the other
-pub tables_copied :
-    (at : ℕ) (f : ℕ → ℕ) (low high tables middle now : List ℕ) → Multiples 16 f low → Multiples 16 (λ p. doubled (get_or low (in_row 8 p) 0)) high →
-    Written at multiple_rows (λ i. get_or low (0 + i) 0) tables middle → Written (at + multiple_rows) multiple_rows (λ i. get_or high (0 + i) 0) middle now →
-    TablesPut at f tables now
-tables_copied at f low high tables middle now l h w v =
-    record {
-      long = v.long ∙ w.long;
-      put =
-          record {
-            low = λ k p g o.
-                v.before _ (omega arith) ∙ w.new (in_row k p) (omega arith) ∙ ap (λ (i : ℕ). get_or low i 0) (let e : 0 + in_row k p ≡ in_row k p = omega arith in e)
-                ∙ l.row k p g o;
-            high = λ k p g o.
-                v.new (in_row k p) (omega arith) ∙ ap (λ (i : ℕ). get_or high i 0) (let e : 0 + in_row k p ≡ in_row k p = omega arith in e) ∙ h.row k p g o
-                ∙ ap (λ (x : ℕ). times (doubled x) k) (l.row 8 p (omega arith) o);
-          };
-      before = λ i g. v.before i (omega arith) ∙ w.before i g;
-      after = λ i g. v.after i (omega arith) ∙ w.after i (omega arith);
-    }
 
 -- a row of each, by the halves of a constant
 pub halves_added :
@@ -51,10 +30,6 @@ halves_added at c to f tables rows now h byte t w =
     w
 
 -- the tables of rows, one row more
-pub row_tables_none : (first : ℕ) (rows tables : List ℕ) → table_room * first ≤ length tables → RowTablesPut first first rows tables tables
-row_tables_none first rows tables e =
-    record { long = refl; put = record { room = e; each = λ m h l. absurd (omega arith) }; before = λ i h. refl; after = λ i h. refl }
-
 pub row_tables_more :
     (first many : ℕ) (f : ℕ → ℕ) (rows tables middle now : List ℕ) → first ≤ many → ((p : ℕ) → p < row_width → f p ≡ get_or rows (in_row many p) 0) →
     RowTablesPut first many rows tables middle → table_room * (many + 1) ≤ length tables → TablesPut (table_room * many) f middle now →
@@ -80,6 +55,3 @@ row_tables_more first many f rows tables middle now some same t room w =
           low = λ k p g o. w.put.low k p g o ∙ ap (λ (b : ℕ). times b k) (same p o);
           high = λ k p g o. w.put.high k p g o ∙ ap (λ (b : ℕ). times (doubled (times b 8)) k) (same p o);
         })
-
-pub row_tables_to : {first many k : ℕ} {rows tables now : List ℕ} → many ≡ k → RowTablesPut first many rows tables now → RowTablesPut first k rows tables now
-row_tables_to {first} {many} {k} {rows} {tables} {now} e t = subst (λ (i : ℕ). RowTablesPut first i rows tables now) e t

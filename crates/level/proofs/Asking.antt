@@ -20,8 +20,7 @@ use Rattle.record.specs.declared.Holdings.{Holdings}
 use Rattle.record.proofs.Refusal.{line_applies, line_passed, first_of_here, first_of_next, first_of_last, ask_settings}
 use Rattle.level.specs.Level.{height, confident, ascending, blank_columns, dropped, without_ends, left, middle, level_of, correction_of, width_refusal, blank_columns_refusal, level_refusal}
 use Rattle.level.specs.Entry.{LevelSays}
-use Rattle.level.specs.Steps.Ends.{InFront, SortedIn}
-use Rattle.level.proofs.Gathering.{front_length}
+use Rattle.level.proofs.Gathering.{ascending_length}
 use Rattle.level.proofs.Left.{blank_or_confident, held_columns}
 
 -- the lines
@@ -55,54 +54,53 @@ says_refused c answer level correction e h l k =
     }
 
 -- a finished column of heights, with those of confidence above 0 in ascending order
-pub record SortedHeights (c : Column) (many : ℕ) (array : List ℤ) : Type 0 where
+pub record SortedHeights (c : Column) (sorted : List ℤ) : Type 0 where
   pub asked : ask_refusal (view c) ≡ 0
   pub width : c.who.w ≡ 4
-  pub few : many ≤ 32
-  pub front : InFront many (ascending (confident (view c).found.held)) array
+  pub heights : sorted ≡ ascending (confident (view c).found.held)
 
 pub sorted_heights :
-    (c : Column) (h : Holdings) (many : ℕ) (array : List ℤ) → ResultSays c h → h.answer ≡ 0 → c.who.w ≡ 4 →
-    SortedIn c.who.n h.values h.confidences many array → SortedHeights c many array
+    (c : Column) (h : Holdings) (sorted : List ℤ) → ResultSays c h → h.answer ≡ 0 → c.who.w ≡ 4 →
+    sorted ≡ ascending (confident (held_in (settings c.who.n c.who.t 4) h.values h.confidences)) → SortedHeights c sorted
 unfolding settings_of
-sorted_heights c h many array says done width sorted =
+sorted_heights c h sorted says done width heights =
     let e : held_in (settings c.who.n c.who.t 4) h.values h.confidences ≡ (view c).found.held =
     ap (λ (w : ℕ). held_in (settings c.who.n c.who.t w) h.values h.confidences) (sym width) ∙ (says.done done).reads in
-    record { asked = sym says.answered ∙ done; width = width; few = sorted.few; front = rw e at (sorted.heights c.who.t) }
+    record { asked = sym says.answered ∙ done; width = width; heights = rw e at heights }
 
-module _ (c : Column) (many : ℕ) (array : List ℤ) (s : SortedHeights c many array) where
-  count : length (confident (view c).found.held) ≡ many
-  count = front_length many (confident (view c).found.held) array s.few s.front
+module _ (c : Column) (sorted : List ℤ) (s : SortedHeights c sorted) where
+  count : length (confident (view c).found.held) ≡ length sorted
+  count = sym (ap length s.heights ∙ ascending_length (confident (view c).found.held))
 
   -- a column is blank or its height is among those sorted
-  blank_or_sorted : blank_columns (view c).found.held + many ≡ c.who.n
+  blank_or_sorted : blank_columns (view c).found.held + length sorted ≡ c.who.n
   blank_or_sorted = omega (arith, count, blank_or_confident (view c).found.held, held_columns c s.asked)
 
-  pub some_columns : many ≤ c.who.n
+  pub some_columns : length sorted ≤ c.who.n
   some_columns = omega (arith, blank_or_sorted)
 
-  blank_count : c.who.n - many ≡ blank_columns (view c).found.held
+  blank_count : c.who.n - length sorted ≡ blank_columns (view c).found.held
   blank_count = omega (arith, blank_or_sorted)
 
-  pub blank_refused : c.who.t < c.who.n - many → level_refusal (view c) ≡ 22
+  pub blank_refused : c.who.t < c.who.n - length sorted → level_refusal (view c) ≡ 22
   unfolding blank_columns_refusal view who_in who_as settings_of settings
   blank_refused h =
       last_line (view c) s.asked s.width
       ∙ line_applies 22 _ (lt-ltb c.who.t (blank_columns (view c).found.held) (omega (arith, blank_count)))
 
-  pub not_refused : c.who.n - many ≤ c.who.t → level_refusal (view c) ≡ 0
+  pub not_refused : c.who.n - length sorted ≤ c.who.t → level_refusal (view c) ≡ 0
   unfolding blank_columns_refusal view who_in who_as settings_of settings
   not_refused h =
       last_line (view c) s.asked s.width
       ∙ line_passed 22 _ (le-ltb c.who.t (blank_columns (view c).found.held) (omega (arith, blank_count)))
 
   pub says_level :
-      (level correction : ℤ) → c.who.n - many ≤ c.who.t → level ≡ middle (without_ends (c.who.t - (c.who.n - many)) (take many array)) →
+      (level correction : ℤ) → c.who.n - length sorted ≤ c.who.t → level ≡ middle (without_ends (c.who.t - (c.who.n - length sorted)) sorted) →
       correction ≡ level -ℤ height (take 4 c.who.own) → LevelSays c 0 level correction
   unfolding level_of correction_of left dropped view who_in who_as settings_of settings value_size
   says_level level correction h e k =
       let done : level ≡ level_of (view c).who.settings (view c).found.held =
-      e ∙ ap₂ (λ (b : ℕ) (hs : List ℤ). middle (without_ends (c.who.t - b) hs)) blank_count s.front.front in
+      e ∙ ap₂ (λ (b : ℕ) (hs : List ℤ). middle (without_ends (c.who.t - b) hs)) blank_count s.heights in
       record {
         answered = sym (not_refused h);
         level_done = λ z. done;

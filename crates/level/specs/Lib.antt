@@ -1,4 +1,4 @@
 pub mod Level
 pub mod Promise
 pub mod Entry
-pub mod Steps
+pub mod Answer

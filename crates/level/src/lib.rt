@@ -5,40 +5,36 @@ pub mod answer;
 mod ends;
 mod heights;
 
+ghost use Rattle.refusal.specs.Number.{answer_of};
 ghost use Rattle.level.specs.Entry.{LevelSays};
+ghost use Rattle.level.specs.Answer.{numbers_of};
 
-use crate::answer::Level;
+use crate::answer::Levelled;
+use crate::ends::Sorted;
 use record::Column;
+use refusal::Refusal;
 
-// The level and the correction of a finished column whose values are heights: 0, or the refusal 1 to 4, 6, 17, 21 or 22.
-pub fn level(column: Column) -> Level
-    ensures { LevelSays column result.answer result.level result.correction }
+// The bytes of a height.
+const HEIGHT: u32 = 4;
+
+// The level and the correction of a finished column whose values are heights. Refused by 1 to 4, 6, 17, 21 or 22.
+pub fn level(column: &Column) -> Result<Levelled, Refusal>
+    ensures { LevelSays column.now (answer_of result) (numbers_of result).level (numbers_of result).correction }
 {
-    let held = column::result(column);
-    if held.answer != 0 {
-        return answer::refused(held.answer);
-    }
-    let who = column.who;
-    if who.w != 4 {
-        return answer::refused(21);
+    let held = column::result(column)?;
+    let who = &column.who;
+    if who.w != HEIGHT {
+        return Err(Refusal::NoHeights);
     }
     let n = who.n as usize;
     let t = who.t as usize;
-    let values = held.values;
-    let confidences = held.confidences;
-    let sorted = ends::ascending(n, values, confidences);
-    let blank = n - sorted.many;
+    let sorted = Sorted::of(n, &held.values, &held.confidences);
+    let blank = n - sorted.len();
     if blank > t {
-        return answer::refused(22);
+        return Err(Refusal::TooFew);
     }
     let dropped = t - blank;
-    let heights = sorted.heights;
-    let level = ends::middle(heights, sorted.many, dropped);
-    let own = who.own;
-    let correction = heights::correction(level, own);
-    Level {
-        answer: 0,
-        level,
-        correction,
-    }
+    let level = sorted.middle(dropped);
+    let correction = heights::correction(level, &who.own);
+    Ok(Levelled { level, correction })
 }

@@ -2,5 +2,6 @@
 #![tactic(auto)]
 
 pub mod berlekamp;
+pub mod locators;
 pub mod plane;
 pub mod single;

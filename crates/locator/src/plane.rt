@@ -11,9 +11,7 @@ pub fn put_plane(rows: &mut [u8], p: usize, bytes: &[u8])
     requires { (p < row_width) × (length bytes.now ≤ plane_room) × (row_width * length bytes.now ≤ length rows.old) }
     ensures { LaneWritten p (length bytes.now) (λ j. get_or bytes.now j 0) rows.old rows.new }
 {
-    let mut j = 0;
-    while j < bytes.len() {
-        rows[ROW_WIDTH * j + p] = bytes[j];
-        j += 1;
+    for (j, byte) in bytes.iter().enumerate() {
+        rows[ROW_WIDTH * j + p] = *byte;
     }
 }

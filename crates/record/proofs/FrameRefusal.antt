@@ -3,13 +3,13 @@
 use mathlib.Core.Path.{◌≡◌, refl, sym, ◌∙◌, ap, ap₂, subst}
 use mathlib.Core.Bool.{Bool, true, false, cond, ◌||◌, not}
 use mathlib.Core.List.{List, [], ◌∷◌, ◌++◌}
-use Prim.Native.Nat.{ℕ, ◌≤◌}
+use Prim.Native.Nat.{ℕ, suc, ◌+◌, ◌*◌, ◌≤◌}
 use native.Mathlib.Omega.{arith}
-use lib.Dec.{eqb}
+use lib.Dec.{eqb, ltb}
 use lib.ListN.{length, get_or}
 use borrow.Author.Tests.{eqb-true, eqb-false, eq-eqb, ne_eqb, le-ltb, not-false}
 use Rattle.code.specs.Settings.{Settings, settings_refusal}
-use Rattle.record.specs.Frame.{command, frame_size, command_round, round_in, sender_in, run_in}
+use Rattle.record.specs.Frame.{header_size, command, frame_size, command_round, round_in, sender_in, run_in}
 use Rattle.record.specs.Record.{Rec, is_taken, frame_at, InTime}
 use Rattle.record.specs.Refusal.{line, first_of, round_refusal, slot_refusal, short_refusal, command_refusal, length_refusal, sender_refusal, run_refusal, other_round_refusal, repeated_refusal, record_refusal, frame_refusal, take_refusal}
 use Rattle.record.proofs.Refusal.{line_passed, line_zero, first_of_zero, first_of_here, first_of_next, first_of_last, first_of_group, inside, slot_inside, record_settings}
@@ -25,6 +25,31 @@ round_in_most bs = go (eqb (get_or bs 0 0) (command 1)) (eqb (get_or bs 0 0) (co
     go false true c = omega arith
     go false false true = omega arith
     go false false false = omega arith
+
+-- the lines of a frame, one test after the other
+pub frame_tests :
+    (s : Settings) (run m k : ℕ) (there : Bool) (bs : List ℕ) →
+    (let p = command_round (get_or bs 0 0) in
+    frame_refusal s run m k there bs
+    ≡ cond (ltb (length bs) header_size) 9
+    (cond (eqb p 0) 10
+    (cond (not (eqb (length bs) (frame_size s p))) 11
+    (cond (not (eqb (get_or bs 1 0) k)) 12
+    (cond (not (eqb (256 * get_or bs 2 0 + get_or bs 3 0) run)) 13 (cond (ltb p m || ltb (suc m) p) 14 (cond there 15 0)))))))
+unfolding frame_refusal first_of line short_refusal command_refusal length_refusal sender_refusal run_refusal other_round_refusal repeated_refusal round_in sender_in run_in
+frame_tests s run m k there bs = go _ _ _ _ _ _ there
+  where
+    go : (a b c d e f g : Bool) →
+        first_of (line 9 a ∷ line 10 b ∷ line 11 c ∷ line 12 d ∷ line 13 e ∷ line 14 f ∷ line 15 g ∷ [])
+        ≡ cond a 9 (cond b 10 (cond c 11 (cond d 12 (cond e 13 (cond f 14 (cond g 15 0))))))
+    go true b c d e f g = refl
+    go false true c d e f g = refl
+    go false false true d e f g = refl
+    go false false false true e f g = refl
+    go false false false false true f g = refl
+    go false false false false false true g = refl
+    go false false false false false false true = refl
+    go false false false false false false false = refl
 
 -- a frame of round m, from sender k, of that run
 pub record Fits (s : Settings) (run m k : ℕ) (bs : List ℕ) : Type 0 where

@@ -1,19 +1,18 @@
 -- Bytes in front of others, read again. A stored frame's operand is read back as it came; check values glued together are cut into
--- the same values again, so what `check_values` wrote is read as check values.
+-- the same values again, so what `put_checks` wrote is read as check values.
 -- Assumes nothing.
-use mathlib.Core.Path.{◌≡◌, refl, sym, ◌∙◌, ap, ap₂, subst}
+use mathlib.Core.Path.{◌≡◌, refl, sym, ◌∙◌, ap, ap₂}
 use mathlib.Core.Bool.{true}
 use mathlib.Core.List.{List, [], ◌∷◌, ◌++◌, append_assoc}
-use Prim.Native.Nat.{ℕ, zero, suc, ◌+◌, ◌*◌, ◌≤◌}
+use Prim.Native.Nat.{ℕ, zero, suc, ◌+◌, ◌*◌}
 use native.Mathlib.Nat.{suc-mul, suc-add, zero-add}
 use native.Mathlib.Omega.{arith}
 use lib.ListN.{length, take, drop, length-drop}
 use lib.Seq.{take_at, drop_at, take-nil, take-take, drop-append-le}
-use borrow.Author.Tests.{eq-eqb, le-ltb}
 use Rattle.arrays.specs.Array.{in_front}
-use Rattle.code.specs.Settings.{settings, settings_refusal, check_count, value_size}
+use Rattle.code.specs.Settings.{settings, check_count, value_size}
 use Rattle.code.specs.Vector.{cut, glued, has_checks}
-use Rattle.code.specs.Entry.{values_in, checks_refusal, ChecksPut, ChecksAs, ChecksSays}
+use Rattle.code.specs.Entry.{values_in, ChecksPut}
 use Rattle.code.proofs.Vectors.Planes.{Values, checked_of}
 use Rattle.record.specs.Frame.{operand_in, checks_in}
 
@@ -44,23 +43,14 @@ cut_front (suc n) w bs =
     let e : suc n * w ≡ w + n * w = omega (arith, suc-mul n w) in
     rw e (ap₂ ◌∷◌ (take-take w (w + n * w) bs (omega arith)) (ap (cut n w) (drop_take w (n * w) bs) ∙ cut_front n w (drop w bs)))
 
--- what `check_values` wrote
-checks_put_of :
-    (n t w r : ℕ) (vector out now : List ℕ) → settings_refusal (settings n t w) ≡ 0 → length vector ≡ n * w → 2 * t * w ≤ length out →
-    ChecksSays n t w vector r out now → ChecksPut (settings n t w) vector out now
-unfolding ChecksSays ChecksAs checks_refusal settings check_count value_size
-checks_put_of n t w r vector out now fine long room says = (subst (λ (k : ℕ). ChecksAs k (settings n t w) vector r out now) number says).1
-  where
-    number : checks_refusal (settings n t w) (length vector) (length out) ≡ 0
-    number = rw (fine, eq-eqb (length vector) (n * w) long, le-ltb (length out) (2 * t * w) room) refl
-
+-- what `put_checks` wrote
 pub checks_written :
-    (n t w size r : ℕ) (values out now : List ℕ) → settings_refusal (settings n t w) ≡ 0 → size ≡ n * w → length (take size values) ≡ size →
-    length out ≡ check_count (settings n t w) * value_size (settings n t w) → ChecksSays n t w (take size values) r out now →
+    (n t w size : ℕ) (values out now : List ℕ) → size ≡ n * w → length out ≡ check_count (settings n t w) * value_size (settings n t w) →
+    ChecksPut (settings n t w) (take size values) out now →
     has_checks (settings n t w) (values_in (settings n t w) n values) (checks_in (settings n t w) now) ≡ true
 unfolding ChecksPut checks_in values_in in_front settings check_count value_size
-checks_written n t w size r values out now fine many long room says =
-    let put = checks_put_of n t w r (take (n * w) values) out now fine (rw many at long) (omega arith) (rw many at says) in
+checks_written n t w size values out now many room says =
+    let put = rw many at says in
     let checked = checked_of (settings n t w) _ put.0 put.1 in
     let same : cut (2 * t) w now ≡ put.0 =
     ap (cut (2 * t) w) put.2 ∙ ap (λ (k : ℕ). cut k w (glued put.0 ++ drop (length (glued put.0)) out)) (sym checked.many)

@@ -6,3 +6,5 @@ pub mod There
 pub mod Size
 pub mod Front
 pub mod View
+pub mod Checked
+pub mod Tests

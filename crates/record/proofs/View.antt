@@ -78,10 +78,11 @@ frames_at s m (suc k) xs d e l h =
     ap (get_or (map f (take s.n xs)) k) (sym (frame_of_empty (operand_size s m) d e)) ∙ get_or-map f (take s.n xs) k d
     ∙ ap f (get_or-take s.n xs k d (omega arith)) ∙ ap (λ (i : ℕ). f (get_or xs i d)) (sym q)
 
--- whether a frame that comes in time is there, by the two bytes of the record
+-- whether a frame that comes in time is there, by two bytes of the record
 pub slot_there :
     (c : Column) (p k : ℕ) (d : Slot) → d.taken ≡ 0 → 1 ≤ k → k ≤ c.who.n → InTime c.round p →
-    is_taken (frame_at (view c) p k) ≡ there_by c.round (get_or c.slots (k - 1) d).taken (get_or c.early (k - 1) d).taken p
+    is_taken (frame_at (view c) p k)
+    ≡ there_by c.round (not (eqb (get_or c.slots (k - 1) d).taken 0)) (not (eqb (get_or c.early (k - 1) d).taken 0)) p
 unfolding view settings_of settings frame_at frames_of there_by
 slot_there c p k d e l h due = go (eqb p c.round) (eqb p (suc c.round)) refl refl
   where

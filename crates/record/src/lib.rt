@@ -6,10 +6,11 @@ pub mod refusals;
 pub mod slots;
 
 ghost use Rattle.std.specs.Prelude.{◌≡◌, ◌*◌, ◌≤◌};
-ghost use Rattle.code.specs.Size.{most_columns, value_room, vector_room};
+ghost use Rattle.code.specs.Size.{vector_room};
 ghost use Rattle.record.specs.Record.{raised as «raised_of»};
 ghost use Rattle.record.specs.Stored.{no_column};
 
+use code::settings::Settings;
 use code::sizes::{CHECKS_ROOM, MOST_COLUMNS, VALUE_ROOM, VECTOR_ROOM};
 
 // A frame's command, sender and run number.
@@ -28,9 +29,6 @@ pub struct Identity {
     pub run: u16,
     pub own: [u8; VALUE_ROOM],
 }
-
-// The top of a count of refused frames.
-const COUNT_TOP: u32 = 4294967295;
 
 // What came in from one sender for a round: whether its frame was taken, which any number but 0 says, and the frame.
 #[repr(C)]
@@ -92,6 +90,7 @@ pub struct Holdings {
 }
 
 // The record whose bytes are all 0.
+#[tactic(auto, unfolding(crate::specs::Stored::no_column, crate::specs::Stored::identity, crate::specs::Stored::no_findings, arrays::specs::Array::padded, arrays::specs::Array::in_front))]
 pub fn empty() -> Column
     ensures { result ≡ no_column }
 {
@@ -123,19 +122,17 @@ pub fn empty() -> Column
 }
 
 // The bytes of a value for each column.
-pub fn vector_size(n: u32, w: u32) -> usize
-    requires { (n ≤ most_columns) × (w ≤ value_room) }
-    ensures { (result ≡ n * w) × (result ≤ vector_room) }
+#[tactic(auto, using(code::proofs::ValidSettings::values_fit))]
+pub fn vector_size(settings: Settings) -> usize
+    ensures { (result ≡ settings.n * settings.w) × (result ≤ vector_room) }
 {
-    (n * w) as usize
+    settings.columns() * settings.size()
 }
 
 // One more in a count that stays at its top.
+#[tactic(auto, using(std::proofs::lemmas::Bool::Decides::nat_tests), unfolding(crate::specs::Record::raised))]
 pub fn raised(count: u32) -> u32
     ensures { result ≡ raised_of count }
 {
-    if count == COUNT_TOP {
-        return count;
-    }
-    count + 1
+    count.saturating_add(1)
 }

@@ -1,115 +1,91 @@
-// Where a call is turned down before its frame or buffer is looked at: the numbers 1 to 8.
-ghost use Rattle.std.specs.Prelude.{◌≡◌, [], ◌∷◌};
+// Where a call is turned down before its frame or buffer is looked at.
+ghost use Rattle.std.specs.Prelude.{◌≡◌, [], ◌∷◌, IfOk};
+ghost use Rattle.refusal.specs.Number.{answer_of};
 ghost use Rattle.code.specs.Settings.{settings, settings_refusal};
 ghost use Rattle.record.specs.Refusal.{first_of, number_refusal, round_refusal, slot_refusal, unfinished_refusal, open_refusal, record_refusal};
 ghost use Rattle.record.specs.View.{who_in};
+ghost use Rattle.record.specs.Steps.Checked.{SettingsAre};
 
 use crate::Identity;
+use code::settings::Settings;
+use refusal::Refusal;
 
-// 4: own number not 1 to n.
-fn number_refusal(n: u32, number: u32) -> u32
-    ensures { result ≡ number_refusal n number }
+// The group and the own number in it.
+#[tactic(auto, using(std::proofs::lemmas::Bool::Decides::nat_tests), unfolding(crate::specs::Refusal::first_of, crate::specs::Refusal::number_refusal, crate::specs::Refusal::line))]
+fn check_group(n: u32, t: u32, w: u32, number: u32) -> Result<Settings, Refusal>
+    ensures answer { answer_of result ≡ first_of (settings_refusal (settings n t w) ∷ number_refusal n number ∷ []) }
+    ensures same { IfOk result (λ s. SettingsAre n t w s) }
 {
-    if number < 1 {
-        return 4;
+    let settings = Settings::new(n, t, w)?;
+    if number < 1 || n < number {
+        return Err(Refusal::Number);
     }
-    if n < number {
-        return 4;
-    }
-    0
+    Ok(settings)
 }
 
-// The group and the own number in it: 1 to 4.
-fn group_refusal(n: u32, t: u32, w: u32, number: u32) -> u32
-    ensures { result ≡ first_of (settings_refusal (settings n t w) ∷ number_refusal n number ∷ []) }
+// Opening.
+#[tactic(auto, using(std::proofs::lemmas::Bool::Decides::nat_tests, crate::proofs::Tests::open_tests), unfolding(crate::specs::Refusal::first_of, crate::specs::Refusal::line))]
+pub fn check_open(n: u32, t: u32, w: u32, number: u32, own: &[u8]) -> Result<(), Refusal>
+    ensures { answer_of result ≡ open_refusal (settings n t w) number own.now }
 {
-    let of_settings = code::settings::settings_refusal(n, t, w);
-    if of_settings != 0 {
-        return of_settings;
-    }
-    number_refusal(n, number)
-}
-
-// Opening: 1 to 6.
-pub fn open_refusal(n: u32, t: u32, w: u32, number: u32, own: &[u8]) -> u32
-    ensures { result ≡ open_refusal (settings n t w) number own.now }
-{
-    let of_group = group_refusal(n, t, w, number);
-    if of_group != 0 {
-        return of_group;
-    }
-    if own.len() != w as usize {
-        return 5;
+    let settings = check_group(n, t, w, number)?;
+    if own.len() != settings.size() {
+        return Err(Refusal::OwnLength);
     }
     if arrays::is_zero(own) {
-        return 6;
+        return Err(Refusal::OwnBlank);
     }
-    0
+    Ok(())
 }
 
-// The record, again at each call: 1 to 4, 6.
-fn record_refusal(who: Identity) -> u32
-    ensures { result ≡ record_refusal (who_in who) }
+// The record, again at each call.
+#[tactic(auto, using(std::proofs::lemmas::Bool::Decides::nat_tests, crate::proofs::Tests::record_tests), unfolding(crate::specs::Refusal::first_of, crate::specs::Refusal::line))]
+fn check_record(who: &Identity) -> Result<Settings, Refusal>
+    ensures answer { answer_of result ≡ record_refusal (who_in who.now) }
+    ensures same { IfOk result (λ s. SettingsAre who.now.n who.now.t who.now.w s) }
 {
-    let of_group = group_refusal(who.n, who.t, who.w, who.number);
-    if of_group != 0 {
-        return of_group;
+    let settings = check_group(who.n, who.t, who.w, who.number)?;
+    if arrays::is_zero(&who.own[..settings.size()]) {
+        return Err(Refusal::OwnBlank);
     }
-    let own = who.own;
-    let size = who.w as usize;
-    if arrays::is_zero(&own[..size]) {
-        return 6;
-    }
-    0
+    Ok(settings)
 }
 
-// Taking, sending and closing: the record's, and 7, a round that is not 1, 2 or 3.
-pub fn close_refusal(who: Identity, round: u32) -> u32
-    ensures { result ≡ first_of (record_refusal (who_in who) ∷ round_refusal round ∷ []) }
+// Taking, sending and closing: the record, and the round.
+#[tactic(auto, using(std::proofs::lemmas::Bool::Decides::nat_tests), unfolding(crate::specs::Refusal::first_of, crate::specs::Refusal::round_refusal, crate::specs::Refusal::line))]
+pub fn check_close(who: &Identity, round: u32) -> Result<Settings, Refusal>
+    ensures answer { answer_of result ≡ first_of (record_refusal (who_in who.now) ∷ round_refusal round ∷ []) }
+    ensures same { IfOk result (λ s. SettingsAre who.now.n who.now.t who.now.w s) }
 {
-    let of_record = record_refusal(who);
-    if of_record != 0 {
-        return of_record;
+    let settings = check_record(who)?;
+    if round < 1 || 3 < round {
+        return Err(Refusal::Round);
     }
-    if round < 1 {
-        return 7;
-    }
-    if 3 < round {
-        return 7;
-    }
-    0
+    Ok(settings)
 }
 
-// Taking, before the frame is looked at: as for closing, and 8, a slot that is not 1 to n, or the column's own.
-pub fn slot_refusal(who: Identity, round: u32, slot: u32) -> u32
-    ensures { result ≡ first_of (record_refusal (who_in who) ∷ round_refusal round ∷ slot_refusal who.n who.number slot ∷ []) }
+// Taking, before the frame is looked at: as for closing, and the slot.
+#[tactic(auto, using(std::proofs::lemmas::Bool::Decides::nat_tests), unfolding(crate::specs::Refusal::first_of, crate::specs::Refusal::slot_refusal, crate::specs::Refusal::line))]
+pub fn check_slot(who: &Identity, round: u32, slot: u32) -> Result<Settings, Refusal>
+    ensures answer { answer_of result ≡ first_of (record_refusal (who_in who.now) ∷ round_refusal round ∷ slot_refusal who.now.n who.now.number slot ∷ []) }
+    ensures same { IfOk result (λ s. SettingsAre who.now.n who.now.t who.now.w s) }
 {
-    let of_round = close_refusal(who, round);
-    if of_round != 0 {
-        return of_round;
+    let settings = check_close(who, round)?;
+    if slot < 1 || who.n < slot || slot == who.number {
+        return Err(Refusal::Slot);
     }
-    if slot < 1 {
-        return 8;
-    }
-    if who.n < slot {
-        return 8;
-    }
-    if slot == who.number {
-        return 8;
-    }
-    0
+    Ok(settings)
 }
 
-// Asking for the result: the record's, and 17, a round that is not 4.
-pub fn ask_refusal(who: Identity, round: u32) -> u32
-    ensures { result ≡ first_of (record_refusal (who_in who) ∷ unfinished_refusal round ∷ []) }
+// Asking for the result: the record, and that its rounds are closed.
+#[tactic(auto, using(std::proofs::lemmas::Bool::Decides::nat_tests), unfolding(crate::specs::Refusal::first_of, crate::specs::Refusal::unfinished_refusal, crate::specs::Refusal::line))]
+pub fn check_ask(who: &Identity, round: u32) -> Result<Settings, Refusal>
+    ensures answer { answer_of result ≡ first_of (record_refusal (who_in who.now) ∷ unfinished_refusal round ∷ []) }
+    ensures same { IfOk result (λ s. SettingsAre who.now.n who.now.t who.now.w s) }
 {
-    let of_record = record_refusal(who);
-    if of_record != 0 {
-        return of_record;
-    }
+    let settings = check_record(who)?;
     if round != 4 {
-        return 17;
+        return Err(Refusal::Unfinished);
     }
-    0
+    Ok(settings)
 }

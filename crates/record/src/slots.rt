@@ -7,6 +7,7 @@ use crate::{LONGEST_FRAME, Slot};
 use code::sizes::MOST_COLUMNS;
 
 // Slots in which nothing came.
+#[tactic(auto, unfolding(crate::specs::Stored::no_slot))]
 pub fn no_slots() -> [Slot; MOST_COLUMNS]
     ensures { result ≡ empty_slots }
 {
@@ -18,11 +19,12 @@ pub fn no_slots() -> [Slot; MOST_COLUMNS]
 }
 
 // The slot that a frame is kept in.
+#[tactic(auto, unfolding(crate::specs::Stored::frame_slot, arrays::specs::Array::padded, arrays::specs::Array::in_front))]
 pub fn filled(frame: &[u8]) -> Slot
     requires { length frame.now ≤ longest_frame }
     ensures { result ≡ frame_slot frame.now }
 {
     let mut bytes = [0u8; LONGEST_FRAME];
-    arrays::copy(&mut bytes, 0, frame, 0, frame.len());
+    bytes[..frame.len()].copy_from_slice(frame);
     Slot { taken: 1, bytes }
 }

@@ -117,28 +117,30 @@ value_kept c vs es old now h e l byte z w =
           ∙ sym (ap (plus (get_or vs p 0)) (ap (times c) (z p (omega arith)) ∙ times_zero c h) ∙ plus_zero (get_or vs p 0) (byte p));
     }
 
--- what the loop has written after k columns: up to a place, and the old output from there on
-pub record MendedTo (k at size : ℕ) (vector weighted output output_now : List ℕ) : Type 0 where
-  pub place : at ≡ k * size
-  pub long : length (mended_front k size vector weighted) ≡ at
-  pub bytes : output_now ≡ mended_front k size vector weighted ++ drop at output
+-- what the loop has written after k columns: their values, and the old output behind them
+pub record MendedTo (k size : ℕ) (vector weighted output output_now : List ℕ) : Type 0 where
+  pub long : length (mended_front k size vector weighted) ≡ k * size
+  pub bytes : output_now ≡ mended_front k size vector weighted ++ drop (k * size) output
 
-pub mended_none : (size : ℕ) (vs ys output : List ℕ) → MendedTo 0 0 size vs ys output output
+pub mended_none : (size : ℕ) (vs ys output : List ℕ) → MendedTo 0 size vs ys output output
 unfolding mended_front glued plus_values cut column_errors
-mended_none size vs ys output = record { place = omega arith; long = refl; bytes = refl }
+mended_none size vs ys output = record { long = omega arith; bytes = ap (λ (i : ℕ). drop i output) (let e : 0 ≡ 0 * size = omega arith in e) }
 
 pub mended_long :
-    {k at w : ℕ} {vs ys output now : List ℕ} → MendedTo k at w vs ys output now → at ≤ length output → length now ≡ length output
-mended_long {k} {at} {w} {vs} {ys} {output} {now} m l =
-    omega (arith, ap length m.bytes, length-append (mended_front k w vs ys) (drop at output), m.long, length-drop at output)
+    {k w : ℕ} {vs ys output now : List ℕ} → MendedTo k w vs ys output now → k * w ≤ length output → length now ≡ length output
+mended_long {k} {w} {vs} {ys} {output} {now} m l =
+    omega (arith, ap length m.bytes, length-append (mended_front k w vs ys) (drop (k * w) output), m.long, length-drop (k * w) output)
 
-module _ (k at w c : ℕ) (vs ys output so_far now : List ℕ) (m : MendedTo k at w vs ys output so_far) (h : k < 254) where
+module _ (k w c : ℕ) (vs ys output so_far now : List ℕ) (m : MendedTo k w vs ys output so_far) (h : k < 254) where
+  abbrev at : ℕ
+  at = k * w
+
   pub mended_more :
-      w ≤ row_width → at + w ≤ length vs → row_width * k + w ≤ length ys → at + w ≤ length output → c ≡ power 2 (first_exponent + k * first_exponent) → Bytes vs →
-      Filled (length (take (at + w - at) (drop at so_far))) (length (take (at + w - at) (drop at so_far)))
-      (λ p. plus (get_or (take (at + w - at) (drop at vs)) p 0) (times c (get_or (take (row_width * k + row_width - row_width * k) (drop (row_width * k) ys)) p 0))) now →
-      MendedTo (k + 1) (at + w) w vs ys output (take at so_far ++ (now ++ drop (at + w - at) (drop at so_far)))
-  mended_more small a b d e byte f = record { place = here; long = next_long; bytes = joined }
+      w ≤ row_width → k * w + w ≤ length vs → row_width * k + w ≤ length ys → k * w + w ≤ length output → c ≡ power 2 (first_exponent + k * first_exponent) → Bytes vs →
+      Filled (length (take (k * w + w - k * w) (drop (k * w) so_far))) (length (take (k * w + w - k * w) (drop (k * w) so_far)))
+      (λ p. plus (get_or (take (k * w + w - k * w) (drop (k * w) vs)) p 0) (times c (get_or (take (row_width * k + row_width - row_width * k) (drop (row_width * k) ys)) p 0))) now →
+      MendedTo (k + 1) w vs ys output (take (k * w) so_far ++ (now ++ drop (k * w + w - k * w) (drop (k * w) so_far)))
+  mended_more small a b d e byte f = record { long = next_long ∙ here; bytes = joined }
     where
       value : List ℕ
       value = take w (drop at vs)
@@ -150,7 +152,7 @@ module _ (k at w c : ℕ) (vs ys output so_far now : List ℕ) (m : MendedTo k a
       front = mended_front k w vs ys
 
       here : at + w ≡ (k + 1) * w
-      here = omega (arith, next_value k w, m.place)
+      here = omega (arith, next_value k w)
 
       plain : at + w - at ≡ w
       plain = omega arith
@@ -182,22 +184,22 @@ module _ (k at w c : ℕ) (vs ys output so_far now : List ℕ) (m : MendedTo k a
       next =
           ap (λ (i : ℕ). mended_front i w vs ys) (add-one k) ∙ mended_front_more k w vs ys
           ∙ ap (λ (us : List ℕ). front ++ us)
-          (ap₂ (λ (i d : ℕ). added (take w (drop i vs)) (scaled d errors)) (sym m.place) (sym (e ∙ weight_inverse k h)) ∙ sym written)
+          (ap (λ (d : ℕ). added value (scaled d errors)) (sym (e ∙ weight_inverse k h)) ∙ sym written)
 
       next_long : length (mended_front (k + 1) w vs ys) ≡ at + w
       next_long = ap length next ∙ length-append front now ∙ ap₂ ◌+◌ m.long (f.long ∙ own_long)
 
-      joined : take at so_far ++ (now ++ drop (at + w - at) (drop at so_far)) ≡ mended_front (k + 1) w vs ys ++ drop (at + w) output
+      joined : take at so_far ++ (now ++ drop (at + w - at) (drop at so_far)) ≡ mended_front (k + 1) w vs ys ++ drop ((k + 1) * w) output
       joined =
           ap₂ (λ (us bs : List ℕ). us ++ (now ++ bs)) (ap (take at) m.bytes ∙ take_at front (drop at output) at m.long)
           (ap₂ drop plain rest ∙ drop-drop w at output)
-          ∙ sym (append_assoc front now (drop (at + w) output)) ∙ ap (λ (us : List ℕ). us ++ drop (at + w) output) (sym next)
+          ∙ sym (append_assoc front now (drop (at + w) output)) ∙ ap₂ (λ (us : List ℕ) (i : ℕ). us ++ drop i output) (sym next) here
 
 pub mended_whole :
-    (n at k w : ℕ) (vs ys output now : List ℕ) → k ≡ n → MendedTo k at w vs ys output now →
+    (n k w : ℕ) (vs ys output now : List ℕ) → k ≡ n → MendedTo k w vs ys output now →
     now ≡ in_front (glued (plus_values (cut n w vs) (column_errors n 0 w ys))) output
 unfolding mended_front in_front
-mended_whole n at k w vs ys output now e m =
+mended_whole n k w vs ys output now e m =
     m.bytes ∙ ap (λ (i : ℕ). mended_front k w vs ys ++ drop i output) (sym m.long) ∙ ap (λ (i : ℕ). in_front (mended_front i w vs ys) output) e
 
 -- the errors of the columns: a vector, and its planes

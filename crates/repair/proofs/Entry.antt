@@ -3,25 +3,16 @@
 use mathlib.Core.Path.{◌≡◌, refl, sym, ◌∙◌, subst}
 use mathlib.Core.Bool.{Bool, true, false, ◌||◌, not, cond}
 use mathlib.Core.List.{List}
-use mathlib.Core.Logic.{◌⊎◌, inl, inr}
 use Prim.Native.Nat.{ℕ, zero, suc, ◌*◌, ◌≤◌}
 use native.Mathlib.Omega.{arith}
 use native.Mathlib.Decide.{ℕ_discrete}
 use lib.Dec.{eqb, ltb}
 use lib.ListN.{length}
-use borrow.Author.Tests.{eq-eqb, ne_eqb, le-ltb, eqb-true, ltb-false}
+use borrow.Author.Tests.{eq-eqb, ne_eqb, eqb-true, ltb-false}
 use Rattle.code.specs.Settings.{Settings, settings, settings_refusal, check_count, value_size}
 use Rattle.repair.specs.Entry.{repair_refusal, none_tried, RepairAs, RepairSays, repair_by_refusal, RepairByAs, RepairBySays}
 
 -- three tests of lengths
-some_refuses : (a b d : Bool) → (a ≡ false) ⊎ ((b ≡ false) ⊎ (d ≡ true)) → ◌≡◌ {A = ℕ} (cond (not a || (not b || d)) 18 0) 18
-some_refuses false b d s = refl
-some_refuses true false d s = refl
-some_refuses true true true s = refl
-some_refuses true true false (inl e) = absurd (let z : ◌≡◌ {A = ℕ} 0 1 = cc in omega arith)
-some_refuses true true false (inr (inl e)) = absurd (let z : ◌≡◌ {A = ℕ} 0 1 = cc in omega arith)
-some_refuses true true false (inr (inr e)) = absurd (let z : ◌≡◌ {A = ℕ} 0 1 = cc in omega arith)
-
 none_refuses : (a b d : Bool) → ◌≡◌ {A = ℕ} (cond (not a || (not b || d)) 18 0) 0 → (a ≡ true) × (b ≡ true) × (d ≡ false)
 none_refuses true true false e = (refl, refl, refl)
 none_refuses true true true e = absurd (omega arith)
@@ -46,7 +37,7 @@ Untried number r m k = (r ≡ number) × (m ≡ 0) × (k ≡ none_tried)
 module _ (n t w : ℕ) where
   -- the number
   module _ (v c k : ℕ) where
-    pub refused_settings :
+    refused_settings :
         (r : ℕ) → r ≡ settings_refusal (settings n t w) → (r ≡ 0 → ⊥) → r ≡ repair_refusal (settings n t w) v c k
     unfolding repair_refusal
     refused_settings r e h = rw (← e, ne_eqb r 0 h)
@@ -56,18 +47,6 @@ module _ (n t w : ℕ) where
         repair_refusal (settings n t w) v c k ≡ cond (not (eqb v (n * w)) || (not (eqb c (2 * t * w)) || ltb k (n * w))) 18 0
     unfolding repair_refusal settings check_count value_size
     number e = rw e
-
-    pub refused_length :
-        settings_refusal (settings n t w) ≡ 0 → (eqb v (n * w) ≡ false) ⊎ ((eqb c (2 * t * w) ≡ false) ⊎ (ltb k (n * w) ≡ true)) →
-        18 ≡ repair_refusal (settings n t w) v c k
-    refused_length e s = sym (number e ∙ some_refuses (eqb v (n * w)) (eqb c (2 * t * w)) (ltb k (n * w)) s)
-
-    pub not_refused :
-        settings_refusal (settings n t w) ≡ 0 → v ≡ n * w → c ≡ 2 * t * w → n * w ≤ k → 0 ≡ repair_refusal (settings n t w) v c k
-    not_refused e f g h = sym (number e ∙ all_pass)
-      where
-        all_pass : ◌≡◌ {A = ℕ} (cond (not (eqb v (n * w)) || (not (eqb c (2 * t * w)) || ltb k (n * w))) 18 0) 0
-        all_pass = rw (eq-eqb v (n * w) f, eq-eqb c (2 * t * w) g, le-ltb k (n * w) h)
 
     pub record Accepted : Type 0 where
       pub allowed : settings_refusal (settings n t w) ≡ 0

@@ -3,43 +3,21 @@
 #![tactic(auto)]
 
 use std::io::{self, Read};
-use vector_file::Tally;
+use vector_file::{Output, Part};
 
-fn step<R: Read>(input: &mut R, tally: Tally) -> io::Result<Tally> {
-    let r = vector_file::next(input)?;
-    if !r.is_there {
-        return Ok(tally.done());
-    }
-    let mut vector = [0u8; 512];
-    let mut checks = [0u8; 512];
-    let mut expected = [0u8; 512];
-    let mut output = [0u8; 512];
-    let length = vector_file::fill(input, &mut vector, r.vector)?;
-    let many = vector_file::fill(input, &mut checks, r.checks)?;
-    let filled = vector_file::fill(input, &mut expected, r.filled)?;
-    let room = vector_file::prepare(&mut output, r.room);
-    let repaired = repair::repair(
-        r.n,
-        r.t,
-        r.w,
-        &vector[..length],
-        &checks[..many],
-        &mut output[..room],
-    );
-    let is_filled = vector_file::is_filled(&output, &expected[..filled]);
-    Ok(tally.with(repaired.answer == r.answer && is_filled))
+// Whether the next vector agrees, none at the end of the input. A step of its own: a record of `check_values` has no checks to read.
+fn step<R: Read>(input: &mut R) -> io::Result<Option<bool>> {
+    let Some(r) = vector_file::next(input)? else {
+        return Ok(None);
+    };
+    let vector = Part::read(input, r.vector)?;
+    let checks = Part::read(input, r.checks)?;
+    let expected = Part::read(input, r.filled)?;
+    let mut output = Output::new(r.room);
+    let repaired = repair::repair(r.n, r.t, r.w, vector.bytes(), checks.bytes(), output.lent());
+    Ok(Some(repaired.answer == r.answer && output.is_filled(&expected)))
 }
 
 fn main(rt: HostRuntime) -> io::Result<()> {
-    let mut input = rt.reader();
-    let mut tally = Tally::new();
-    let mut turns = u32::MAX;
-    while turns > 0 {
-        tally = step(&mut input, tally)?;
-        if tally.is_done {
-            break;
-        }
-        turns -= 1;
-    }
-    tally.print(&rt, b"repair")
+    vector_file::run(&rt, b"repair", step)
 }

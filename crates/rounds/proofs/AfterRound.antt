@@ -27,7 +27,8 @@ use Rattle.record.specs.Refusal.{record_refusal}
 use Rattle.rounds.specs.Exchange.{value_or_blank, heard_at, heard_vector, Row, Table, Closed}
 use Rattle.record.specs.View.{settings_of, who_in, frame_in, frames_in, found_in, view, inbox}
 use Rattle.record.specs.Stored.{found_now, one_on}
-use Rattle.rounds.specs.Steps.Senders.{slot_past, SlotRow, SlotRows}
+use Rattle.rounds.specs.Steps.Senders.{SlotRow, SlotRows}
+use Rattle.record.specs.Steps.Due.{slot_past}
 use Rattle.rounds.specs.Steps.Closing.{Finds}
 use Rattle.record.specs.declared.Identity.{Identity}
 use Rattle.record.specs.declared.Slot.{Slot}

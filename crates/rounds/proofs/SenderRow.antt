@@ -2,8 +2,8 @@
 -- it leaves in front of a row of zeros is the repaired vector, or, where there is none, the zeros, which are blanks; and what it tells is
 -- the places changed, or the mark. Assumes nothing.
 use mathlib.Core.Path.{◌≡◌, refl, sym, ◌∙◌, ap, ap₂, subst}
-use mathlib.Core.Bool.{Bool, true, false, not}
-use mathlib.Core.List.{List, ◌∷◌, ◌++◌, append_assoc}
+use mathlib.Core.Bool.{true}
+use mathlib.Core.List.{List, [], ◌∷◌, ◌++◌, append_assoc}
 use mathlib.Core.Logic.{inl, inr}
 use mathlib.Core.Option.{some}
 use mathlib.Mathlib.Data.Bool.Basic.{and_intro}
@@ -11,10 +11,10 @@ use Prim.Native.Nat.{ℕ, zero, suc, ◌+◌, ◌*◌, ◌-◌, ◌<◌, ◌≤�
 use native.Mathlib.Nat.{suc-mul}
 use native.Mathlib.Omega.{arith}
 use lib.ListN.{length, take, drop, replicate, length-drop, take-append-drop}
+use Rattle.std.specs.Prelude.{Option, Some, None}
 use lib.Seq.{length-take-le}
 use borrow.Author.Tests.{eq-eqb, ne_eqb, le-ltb}
 use Rattle.arrays.specs.Array.{in_front}
-use Rattle.arrays.proofs.Bool.{true_not_false}
 use Rattle.code.specs.Settings.{Settings, settings, settings_refusal, check_count, value_size}
 use Rattle.code.specs.Vector.{is_vector, are_checks, has_checks, cut, glued}
 use Rattle.code.specs.Entry.{values_in}
@@ -23,11 +23,11 @@ use Rattle.code.proofs.Vectors.Cut.{cut_length, cut_values, value_fits}
 use Rattle.code.proofs.ValidSettings.{values_fit, sizes}
 use Rattle.code.proofs.Vectors.Planes.{vector_of, values_back, same_equal}
 use Rattle.repair.specs.Entry.{none_found, Done, DoneBy, repair_refusal, repair_by_refusal, RepairByAs, RepairBySays}
-use Rattle.repair.specs.Again.{AgainSays}
+use Rattle.repair.specs.Again.{AgainSays, is_again, answer_after}
 use Rattle.repair.specs.Promise.{ByOwnChecks}
 use Rattle.repair.specs.declared.RepairAnswer.{RepairAnswer}
 use Rattle.repair.proofs.Difference.ByOwnChecks.{by_own_checks}
-use Rattle.grading.specs.Value.{Vector, blank, blanks}
+use Rattle.grading.specs.Value.{blank, blanks}
 use Rattle.grading.proofs.Value.{take_replicate}
 use Rattle.counting.proofs.Placed.{cut_at}
 use Rattle.record.specs.Frame.{checks_in}
@@ -163,27 +163,21 @@ module _ (n t w size count : ℕ) (vector own x row : List ℕ) (fine : settings
       λ told e f. rw many (done_row s (values_in s n vector) x row empty r m told z e f done),
     )
 
-  -- the same by the last repair: its answer where its checks are these
-  pub repaired_again :
-      (ls : List ℕ) (last a : RepairAnswer) (again : Bool) (z : List ℕ) →
-      AgainSays n t w (take size vector) (take count own) ls x last again a (take size row) z →
-      RepairedAgain s (values_in s n vector) x ls last again a row (z ++ drop size row)
-  unfolding AgainSays RepairedAgain told_of settings check_count value_size
-  repaired_again ls last a true z says =
-      (sym (same_equal ls x says.0), says.1, ap (λ (bs : List ℕ). bs ++ drop size row) says.2 ∙ take-append-drop size row)
-  repaired_again ls last a false z says =
-      let found = repaired_row a.answer a.changed a.tried z says.1 in (found.0, found.1 (told_of a) places mark)
-    where
-      places : a.answer ≡ 0 → told_of a ≡ a.changed
-      places f = rw (eq-eqb a.answer 0 f) refl
+  -- the same where the last repair's checks are given
+  module _ (ls z : List ℕ) where
+    pub repaired_again :
+        (answer : Option RepairAnswer) →
+        ((last : RepairAnswer) → AgainSays n t w (take size vector) (take count own) ls x last (is_again answer) (answer_after last answer) (take size row) z) →
+        RepairedAgain s (values_in s n vector) x ls answer row (z ++ drop size row)
+    unfolding AgainSays RepairedAgain told_of settings check_count value_size
+    repaired_again None says =
+        let again = says (record { answer = 0; changed = 0; tried = [] }) in
+        (sym (same_equal ls x again.0), ap (λ (bs : List ℕ). bs ++ drop size row) again.2 ∙ take-append-drop size row)
+    repaired_again (Some a) says =
+        let found = repaired_row a.answer a.changed a.tried z (says a).1 in (found.0, found.1 (told_of a) places mark)
+      where
+        places : a.answer ≡ 0 → told_of a ≡ a.changed
+        places f = rw (eq-eqb a.answer 0 f) refl
 
-      mark : (a.answer ≡ 0 → ⊥) → told_of a ≡ told_none
-      mark f = rw (ne_eqb a.answer 0 f) refl
-
--- the last answer again: the checks are the last ones
-pub same_checks :
-    (s : Settings) (vs : Vector) (x ls : List ℕ) (last : RepairAnswer) (again : Bool) (a : RepairAnswer) (row now : List ℕ) → not again ≡ false →
-    RepairedAgain s vs x ls last again a row now → x ≡ ls
-unfolding RepairedAgain
-same_checks s vs x ls last true a row now e r = r.0
-same_checks s vs x ls last false a row now e r = true_not_false e
+        mark : (a.answer ≡ 0 → ⊥) → told_of a ≡ told_none
+        mark f = rw (ne_eqb a.answer 0 f) refl

@@ -2,4 +2,5 @@
 #![tactic(auto)]
 
 pub mod closing;
+pub mod coded;
 pub mod senders;

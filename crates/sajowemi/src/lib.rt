@@ -1,14 +1,19 @@
 // The calls for programs in C and Rust, in one archive under names of one prefix. Records pass by value as C passes structs, a slice
-// passes as pointer and length.
+// passes as pointer and length. A record that a call changes is copied into the outcome and changed there, so that it is copied once.
 #![tactic(auto)]
 
+ghost use Rattle.std.specs.Prelude.{◌≡◌};
 ghost use Rattle.code.specs.Entry.{ChecksSays};
 ghost use Rattle.repair.specs.Entry.{RepairSays};
 ghost use Rattle.column.specs.Entry.{OpenSays, TakeSays, FrameSizeSays, SendSays, CloseSays, ResultSays};
+ghost use Rattle.column.specs.Answer.{holdings_of};
 ghost use Rattle.level.specs.Entry.{LevelSays};
 
+use code::sizes::{MOST_COLUMNS, VECTOR_ROOM};
+use column::Verdict;
 use level::answer::Level;
-use record::{Column, Holdings, Outcome, refusals};
+use record::{Column, Holdings, Outcome};
+use refusal::Refusal;
 use repair::RepairAnswer;
 
 #[unsafe(no_mangle)]
@@ -22,59 +27,88 @@ pub extern "C" fn sajowemi_open(
 ) -> Outcome
     ensures { OpenSays n t w number run own.now result.answer result.column }
 {
-    column::open(n, t, w, number, run, own)
+    match column::open(n, t, w, number, run, own) {
+        Ok(column) => Outcome { answer: 0, column },
+        Err(refusal) => Outcome {
+            answer: refusal.number(),
+            column: record::empty(),
+        },
+    }
 }
 
 #[unsafe(no_mangle)]
 pub extern "C" fn sajowemi_take(column: Column, slot: u32, frame: &[u8]) -> Outcome
     ensures { TakeSays column slot frame.now result.answer result.column }
 {
-    column::take(column, slot, frame)
+    let mut outcome = Outcome { answer: 0, column };
+    outcome.answer = refusal::answer(column::take(&mut outcome.column, slot, frame));
+    outcome
 }
 
 #[unsafe(no_mangle)]
 pub extern "C" fn sajowemi_frame_size(column: Column) -> u32
     ensures { FrameSizeSays column result }
 {
-    column::frame_size(column)
+    column::frame_size(&column).unwrap_or(0)
 }
 
 #[unsafe(no_mangle)]
 pub extern "C" fn sajowemi_send(column: Column, buffer: &mut [u8]) -> u32
     ensures { SendSays column buffer.old result buffer.new }
 {
-    column::send(column, buffer)
+    refusal::answer(column::send(&column, buffer))
 }
 
-// As `column::close`, whose two ways out stand here: a call deeper the compiler joins them by one more copy of the record.
 #[unsafe(no_mangle)]
 pub extern "C" fn sajowemi_close(column: Column) -> Outcome
     ensures { CloseSays column result.answer result.column }
 {
-    let who = column.who;
-    let answer = refusals::close_refusal(who, column.round);
-    if answer != 0 {
-        return Outcome { answer, column };
-    }
-    let next = column::closed(column);
-    Outcome {
-        answer: 0,
-        column: next,
-    }
+    let mut outcome = Outcome { answer: 0, column };
+    outcome.answer = refusal::answer(column::close(&mut outcome.column));
+    outcome
 }
 
 #[unsafe(no_mangle)]
 pub extern "C" fn sajowemi_result(column: Column) -> Holdings
     ensures { ResultSays column result }
 {
-    column::result(column)
+    holdings(column::result(&column))
+}
+
+// What a column ended with as C reads it: behind the number of a refusal every byte is 0.
+#[tactic(auto, unfolding(record::specs::Stored::no_holdings))]
+fn holdings(outcome: Result<Verdict, Refusal>) -> Holdings
+    ensures { result ≡ holdings_of outcome }
+{
+    match outcome {
+        Ok(verdict) => {
+            let values = verdict.values;
+            let confidences = verdict.confidences;
+            let told_two = verdict.told_two;
+            let told_three = verdict.told_three;
+            Holdings {
+                answer: 0,
+                values,
+                confidences,
+                told_two,
+                told_three,
+            }
+        }
+        Err(refusal) => Holdings {
+            answer: refusal.number(),
+            values: [0; VECTOR_ROOM],
+            confidences: [0; MOST_COLUMNS],
+            told_two: [0; MOST_COLUMNS],
+            told_three: [0; MOST_COLUMNS],
+        },
+    }
 }
 
 #[unsafe(no_mangle)]
 pub extern "C" fn sajowemi_level(column: Column) -> Level
     ensures { LevelSays column result.answer result.level result.correction }
 {
-    level::level(column)
+    Level::from(level::level(&column))
 }
 
 #[unsafe(no_mangle)]
@@ -87,7 +121,7 @@ pub extern "C" fn sajowemi_check_values(
 ) -> u32
     ensures { ChecksSays n t w vector.now result output.old output.new }
 {
-    code::check_values(n, t, w, vector, output)
+    refusal::answer(code::check_values(n, t, w, vector, output))
 }
 
 #[unsafe(no_mangle)]

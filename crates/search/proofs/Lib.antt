@@ -1,5 +1,4 @@
 pub mod Seeking
-pub mod Turn
 pub mod Walk
 pub mod Marked
 pub mod NoRoots

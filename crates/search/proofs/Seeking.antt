@@ -1,14 +1,14 @@
 -- What each plane looks for, and the rows of it. Power sums in geometric progression have a locator without steps, X and their ratio,
 -- or 1 where they are zeros; a locator that is longer than t gives way to one root that is not there. A plane's coefficients go into
 -- rows of zeros, where they change no other plane. Assumes nothing.
-use mathlib.Core.Path.{◌≡◌, refl, sym, ◌∙◌, ap, subst}
+use mathlib.Core.Path.{◌≡◌, refl, sym, ◌∙◌, ap}
 use mathlib.Core.Bool.{Bool, true, false}
 use mathlib.Core.List.{List, [], ◌∷◌}
-use Prim.Native.Nat.{ℕ, zero, suc, ◌+◌, ◌*◌, ◌-◌, ◌≤◌, ◌<◌}
+use Prim.Native.Nat.{ℕ, zero, suc, ◌+◌, ◌-◌, ◌≤◌, ◌<◌}
 use native.Mathlib.Omega.{arith}
 use native.Mathlib.Decide.{dec_lt, ℕ_discrete}
-use lib.ListN.{length, get_or, take, drop, set, length-set, length-drop, get_or-eq_default}
-use lib.Seq.{get_or-set_same, get_or-set_other, get_or-drop, ext_get_or, length-take-le}
+use lib.ListN.{length, get_or, set, length-set, get_or-eq_default}
+use lib.Seq.{get_or-set_same, get_or-set_other}
 use borrow.Author.Tests.{le-leb, lt-leb}
 use Rattle.arrays.specs.Array.{all_zero}
 use Rattle.arrays.proofs.Bool.{true_not_false}
@@ -18,17 +18,15 @@ use Rattle.field.specs.Field.{times}
 use Rattle.field.proofs.Times.{times_zero}
 use Rattle.lanes.specs.Lanes.{row_width, in_row, lane}
 use Rattle.lanes.proofs.Lane.{lane_at, lane_bytes}
-use Rattle.code.specs.Size.{plane_room, value_room, locator_rows}
+use Rattle.code.specs.Size.{value_room, locator_rows}
 use Rattle.locator.specs.Locator.{State, massey}
-use Rattle.locator.specs.Reached.{sums_of, start_of, planes_room, part_of}
-use Rattle.locator.specs.Plane.{GeometricAs, LaneWritten}
+use Rattle.locator.specs.Reached.{sums_of}
+use Rattle.locator.specs.Plane.{GeometricAs}
 use Rattle.locator.specs.Search.{sought, roots_sought}
-use Rattle.arrays.proofs.Part.{part_lent}
-use Rattle.locator.proofs.Rows.Lanes.{lane_written_none, lane_written_more}
 use Rattle.locator.proofs.Locator.Shape.{massey_length, massey_same}
 use Rattle.locator.proofs.Locator.Progression.{zero_locator, geometric_locator}
 use Rattle.errors.specs.Roots.{Fits}
-use Rattle.search.specs.Steps.{plane_sums, LanePut, ShortPut, FoundPut, Seeks, AllSought, ShortAll}
+use Rattle.search.specs.Steps.{plane_sums, LanePut, ShortPut, FoundPut, Seeks, AllSought}
 
 -- what is looked for, by the length of the locator
 module _ (t : ℕ) (state : State) where
@@ -47,51 +45,13 @@ module _ (t : ℕ) (state : State) where
       go (yes h) = let (s, r) = long_sought h in rw (s, r) (omega arith)
       go (no h) = let (s, r) = short_sought (omega arith) in rw (s, r) (omega arith)
 
--- one coefficient put in, or two
-pub put_one : (p v : ℕ) (rows : List ℕ) → p < length rows → LanePut p (v ∷ []) rows (set rows p v)
-put_one p v rows h =
-    subst (λ (i : ℕ). LanePut p (v ∷ []) rows (set rows i v)) (let e : in_row 0 p ≡ p = omega arith in e)
-    (lane_written_more p 0 v (λ j. get_or (v ∷ []) j 0) rows rows (lane_written_none p _ rows) (omega arith) refl)
-
-pub put_two : (p v w : ℕ) (rows : List ℕ) → row_width + p < length rows → LanePut p (v ∷ w ∷ []) rows (set (set rows p v) (row_width + p) w)
-put_two p v w rows h =
-    lane_written_more p 1 w (λ j. get_or (v ∷ w ∷ []) j 0) rows (set rows p v)
-    (subst (λ (i : ℕ). LaneWritten p 1 (λ j. get_or (v ∷ w ∷ []) j 0) rows (set rows i v)) (let e : in_row 0 p ≡ p = omega arith in e)
-    (lane_written_more p 0 v (λ j. get_or (v ∷ w ∷ []) j 0) rows rows (lane_written_none p _ rows) (omega arith) refl))
-    (omega arith) refl
-
+-- what is put in keeps the length
 pub short_long : (p first ratio roots : ℕ) (rows now : List ℕ) → ShortPut p first ratio roots rows now → length now ≡ length rows
 short_long p first ratio roots rows now s = go (ℕ_discrete first 0)
   where
     go : Dec (first ≡ 0) → length now ≡ length rows
     go (yes z) = (s.none z).1.long
     go (no n) = (s.one n).1.long
-
--- the last bytes of a plane's part
-module _ (p size : ℕ) (xs : List ℕ) (inside : p < value_room) (small : size < plane_room) (long : length xs ≡ planes_room) where
-  abbrev end : ℕ
-  end = plane_room * p + plane_room
-
-  abbrev begin : ℕ
-  begin = end - (size + 1)
-
-  part_room : length (part_of p xs) ≡ plane_room
-  part_room = length-take-le plane_room (drop (plane_room * p) xs) (omega (arith, length-drop (plane_room * p) xs))
-
-  pub last_long : length (take (end - begin) (drop begin xs)) ≡ size + 1
-  last_long =
-      let w : end - begin ≡ size + 1 = omega arith in
-      length-take-le (end - begin) (drop begin xs) (omega (arith, length-drop begin xs)) ∙ w
-
-  pub last_part : take (end - begin) (drop begin xs) ≡ drop (start_of size) (part_of p xs)
-  last_part =
-      ext_get_or 0 (take (end - begin) (drop begin xs)) (drop (start_of size) (part_of p xs))
-      (last_long ∙ sym (length-drop (start_of size) (part_of p xs) ∙ omega (arith, part_room)))
-      (λ i h.
-      let l : i < size + 1 = omega (arith, last_long) in
-      part_lent begin (end - begin) xs i (omega arith)
-      ∙ ap (λ (n : ℕ). get_or xs n 0) (let e : begin + i ≡ plane_room * p + (start_of size + i) = omega arith in e)
-      ∙ sym (get_or-drop (start_of size) (part_of p xs) i 0 ∙ part_lent (plane_room * p) plane_room xs (start_of size + i) (omega arith)))
 
 -- what plane p looks for
 module _ (p count t roots : ℕ) (sums rows now : List ℕ) (some : 1 ≤ t) where
@@ -220,14 +180,6 @@ sought_more p count t v sums roots rows now h s d =
         rw e
         (s.put.rest (in_row m p) (λ j g f. a (omega arith)) ∙ d.blank p m (omega arith) (omega arith)
         ∙ sym (get_or-eq_default list 0 (omega arith)))
-
--- all planes in geometric progression
-pub short_all :
-    (answer : Bool) (planes count t : ℕ) (sums roots rows roots_now rows_now : List ℕ) → answer ≡ true → 1 ≤ t → AllSought 0 count t sums roots rows →
-    ShortAll answer planes count sums roots rows roots_now rows_now → AllSought planes count t sums roots_now rows_now
-unfolding ShortAll
-short_all false planes count t sums roots rows roots_now rows_now e some start s = true_not_false (sym e)
-short_all true planes count t sums roots rows roots_now rows_now e some start s = s t some start
 
 -- a plane that a value has not looks for no root of a polynomial that is 0
 module _ (planes count t : ℕ) (sums roots rows : List ℕ) (q : AllSought planes count t sums roots rows) where

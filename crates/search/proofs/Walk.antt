@@ -127,7 +127,7 @@ module _ (j : ℕ) (s : Settings) (rows roots values left left_now tried tried_n
       other i p h k (no a) = u.marked.after _ (omega arith) ∙ w.behind i p h k
 
 -- no root is left in any plane: nothing more is found up to the last place
-walked_early :
+pub walked_early :
     (j places : ℕ) (s : Settings) (rows roots left tried marks : List ℕ) → j ≤ places → all_zero left ≡ true →
     Walked j s rows roots left tried marks → Walked places s rows roots left tried marks
 walked_early j places s rows roots left tried marks l z w =
@@ -154,16 +154,6 @@ walked_early j places s rows roots left tried marks l z w =
         w.ahead i p (omega arith) (omega arith)
         ∙ sym (ap (λ (b : Bool). cond b (cond (eqb (v p i) 0) 1 0) 0)
         (tries_none (get_or roots p 0) (v p) i (omega (arith, found p h, roots_below_mono (v p) j i (omega arith)))))
-
--- the walk ends there or at the last place
-pub walked_end :
-    (j places end : ℕ) (s : Settings) (rows roots left tried marks : List ℕ) → j ≤ places → end ≡ cond (all_zero left) j places → end ≤ j →
-    Walked j s rows roots left tried marks → Walked places s rows roots left tried marks
-walked_end j places end s rows roots left tried marks l e h w = go (all_zero left) refl e
-  where
-    go : (b : Bool) → all_zero left ≡ b → end ≡ cond b j places → Walked places s rows roots left tried marks
-    go true q f = walked_early j places s rows roots left tried marks l q w
-    go false q f = rw (let g : places ≡ j = omega arith in g) w
 
 -- the walk goes on while a plane has a root left, which has tried every place so far
 pub ended_none : (s : Settings) (rows roots left tried marks : List ℕ) → Walked 0 s rows roots left tried marks → Longest tried 0

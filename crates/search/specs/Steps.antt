@@ -1,5 +1,5 @@
 -- What the steps of the search find and leave: a reader of the promises needs none of it. Assumes nothing: these are definitions.
-use Rattle.std.specs.Prelude.{◌≡◌, Bool, true, false, cond, List, [], ◌∷◌, ℕ, ◌+◌, ◌*◌, ◌-◌, ◌≤◌, ◌<◌, eqb, length, get_or}
+use Rattle.std.specs.Prelude.{◌≡◌, cond, List, [], ◌∷◌, ℕ, ◌+◌, ◌*◌, ◌-◌, ◌≤◌, ◌<◌, eqb, length, get_or}
 use Rattle.arrays.specs.Array.{Written}
 use Rattle.lanes.specs.Lanes.{row_width, in_row, lane}
 use Rattle.code.specs.Size.{value_room, place_rows, locator_rows}
@@ -10,7 +10,7 @@ use Rattle.locator.specs.Plane.{LaneWritten}
 use Rattle.locator.specs.Search.{sought, roots_sought, at_place, roots_below, tries, turns}
 use Rattle.errors.specs.Roots.{polynomial}
 use Rattle.search.specs.Planes.{Ended}
-use Rattle.search.specs.declared.places.Found.{Found}
+use Rattle.search.specs.declared.Found.{Found}
 
 -- the power sums of plane p, as a sequence
 abbrev pub plane_sums : (p count : ℕ) → (sums : List ℕ) → ℕ → ℕ
@@ -46,11 +46,9 @@ pub record AllSought (planes count t : ℕ) (sums roots rows : List ℕ) : Type 
   pub others : (p : ℕ) → planes ≤ p → get_or roots p 0 ≡ 0
   pub blank : (p m : ℕ) → planes ≤ p → p < row_width → get_or rows (in_row m p) 0 ≡ 0
 
--- where the answer is yes, the first planes look for this whatever t is, if rows and numbers were zeros
-unfoldable pub ShortAll : (answer : Bool) → (planes count : ℕ) → (sums roots rows roots_now rows_now : List ℕ) → Type 0
-ShortAll false planes count sums roots rows roots_now rows_now = Unit {0}
-ShortAll true planes count sums roots rows roots_now rows_now =
-    (t : ℕ) → 1 ≤ t → AllSought 0 count t sums roots rows → AllSought planes count t sums roots_now rows_now
+-- the first planes look for this whatever t is
+abbrev pub ShortAll : (planes count : ℕ) → (sums roots rows : List ℕ) → Type 0
+ShortAll planes count sums roots rows = (t : ℕ) → 1 ≤ t → AllSought planes count t sums roots rows
 
 -- so many coefficients give every polynomial its own values: those past it are 0
 unfoldable pub SameValues : (many : ℕ) → (rows roots : List ℕ) → Type 0
@@ -87,5 +85,5 @@ pub record Walked (done : ℕ) (s : Settings) (rows roots left tried marks : Lis
 
 -- the whole walk, which ended with the plane that tried most
 pub record WalkedThrough (n t : ℕ) (rows roots : List ℕ) (found : Found) : Type 0 where
-  pub walked : Walked (n + 2 * t) (settings n t value_room) rows roots found.left found.tried found.marks
-  pub ended : Ended (n + 2 * t) found.tried found.marks found.turns
+  pub walked : Walked (n + 2 * t) (settings n t value_room) rows roots found.left found.tried found.rows
+  pub ended : Ended (n + 2 * t) found.tried found.rows found.turns

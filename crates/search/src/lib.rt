@@ -4,63 +4,44 @@
 mod locators;
 mod places;
 
-ghost use Rattle.std.specs.Prelude.{◌≡◌, ◌≤◌, length};
-ghost use Rattle.field.specs.Table.{Powers, Logarithms};
-ghost use Rattle.code.specs.Size.{check_rows};
-ghost use Rattle.code.specs.Settings.{settings, settings_refusal};
+ghost use Rattle.std.specs.Prelude.{◌≤◌};
+ghost use Rattle.code.specs.Settings.{settings as «settings_of»};
 ghost use Rattle.search.specs.Planes.{Decoded};
 
-use code::sizes::{PLACE_ROWS, VALUE_ROOM};
+use code::settings::Settings;
+use code::sizes::{CHECK_ROWS, PLACE_ROWS, VALUE_ROOM};
+use field::Tables;
 
 // What the search found. For each plane: how many of the roots looked for are left, none where a codeword is near, and how many places
-// were tried. In rows, one for each place, the weighted errors there, which are those of a codeword in the planes that have no root left.
-// And how many turns it took: as many as the plane that tried most.
+// were tried. In rows, one for each place, what is found there: a 1 for each plane that has a root, and in the end its weighted error. And
+// how many turns it took: as many as the plane that tried most. The bytes of all planes stand side by side, so that a step works on all.
 #[derive(Clone, Copy)]
-pub struct Errors {
+pub struct Found {
     pub left: [u8; VALUE_ROOM],
     pub tried: [u8; VALUE_ROOM],
-    pub weighted: [u8; PLACE_ROWS],
+    pub rows: [u8; PLACE_ROWS],
     pub turns: usize,
 }
 
-// The errors of all planes at their places, columns 1 to n and then checks 1 to 2t, by the difference of check values.
-pub fn decode(
-    powers: &[u8; 255],
-    logarithms: &[u8; 256],
-    difference: &[u8],
-    n: usize,
-    t: usize,
-    planes: usize,
-) -> Errors
-    requires powers { Powers powers.now × Logarithms logarithms.now }
-    requires planes_value { (settings_refusal (settings n t planes) ≡ 0) × (1 ≤ t) × (length difference.now ≡ check_rows) }
-    ensures { Decoded planes (settings n t planes) difference.now result.left result.tried result.weighted result.turns }
+// The errors of all planes at their places, columns 1 to n and then checks 1 to 2t, by the difference of check values: those of a codeword
+// in the planes that have no root left.
+pub fn decode(tables: &Tables, difference: &[u8; CHECK_ROWS], settings: Settings) -> Found
+    requires { 1 ≤ settings.t }
+    ensures { Decoded settings.w (settings_of settings.n settings.t settings.w) difference.now result.left result.tried result.rows result.turns }
 {
-    let count = 2 * t;
-    let sums = sums::rows::syndromes(powers, logarithms, difference, count);
-    let sought = locators::seek_all(powers, logarithms, &sums, count, t, planes);
-    let rows = sought.rows;
-    let roots = sought.roots;
-    let found = places::walk(powers, &rows, roots, n, t);
-    let left = found.left;
-    let tried = found.tried;
-    let mut weighted = found.marks;
+    let sums = sums::rows::syndromes(tables, difference, settings.check_count());
+    let sought = locators::seek_all(tables, &sums, settings);
+    let mut found = places::walk(tables, &sought, settings);
     errors::weighted::put_found_errors(
-        powers,
-        logarithms,
-        &rows,
+        tables,
+        &sought.rows,
         &sums,
-        roots,
-        left,
-        n,
-        t,
+        sought.roots,
+        found.left,
+        settings.columns(),
+        settings.bad(),
         found.turns,
-        &mut weighted,
+        &mut found.rows,
     );
-    Errors {
-        left,
-        tried,
-        weighted,
-        turns: found.turns,
-    }
+    found
 }

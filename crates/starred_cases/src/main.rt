@@ -2,49 +2,41 @@
 // generator, so that its case is one of the definitions alone.
 #![tactic(auto)]
 
+use code::sizes::{MOST_COLUMNS, VALUE_ROOM, VECTOR_ROOM};
+use column::Verdict;
+use record::{Column, Identity};
+use refusal::Refusal;
 use repair::RepairAnswer;
 use std::io;
 
-fn wide(byte: u8) -> u32 {
-    byte as u32
-}
-
-fn print_bytes<P: Print>(to: &P, bytes: &[u8]) -> io::Result<()> {
-    let mut i = 0;
-    while i < bytes.len() {
-        print!(to; " {}", wide(bytes[i]))?;
-        i += 1;
+fn print_bytes<P: Print>(to: &P, name: &str, bytes: &[u8]) -> io::Result<()> {
+    print!(to; "{name}")?;
+    for byte in bytes {
+        print!(to; " {byte}")?;
     }
     println!(to)
 }
 
-fn print_answer<P: Print>(to: &P, answer: u32) -> io::Result<()> {
-    println!(to; "{answer}")
-}
-
-fn checks_of<P: Print>(to: &P, vector: [u8; 4]) -> io::Result<()> {
+fn print_checks<P: Print>(to: &P, vector: [u8; 4]) -> io::Result<()> {
     let mut checks = [0u8; 2];
-    code::check_values(4, 1, 1, &vector, &mut checks);
-    print!(to; "checks")?;
-    print_bytes(to, &checks)
+    match code::check_values(4, 1, 1, &vector, &mut checks) {
+        Ok(()) => print_bytes(to, "checks", &checks),
+        Err(refusal) => println!(to; "checks {refusal}"),
+    }
 }
 
 fn print_repaired<P: Print>(to: &P, answer: RepairAnswer, output: &[u8]) -> io::Result<()> {
-    print!(to; "repaired")?;
     if answer.answer == 256 {
-        println!(to; " none")?;
+        println!(to; "repaired none")?;
     } else {
-        print_bytes(to, output)?;
+        print_bytes(to, "repaired", output)?;
     }
-    print!(to; "changed ")?;
-    print_answer(to, answer.changed)?;
-    let tried = answer.tried;
-    print!(to; "tried")?;
-    print_bytes(to, &tried)
+    println!(to; "changed {}", answer.changed)?;
+    print_bytes(to, "tried", &answer.tried)
 }
 
 fn repaired_by<P: Print>(to: &P, checks: [u8; 2]) -> io::Result<()> {
-    let vector = [241u8, 86, 35, 35];
+    let vector = [241, 86, 35, 35];
     let mut output = [0u8; 4];
     let repaired = repair::repair(4, 1, 1, &vector, &checks, &mut output);
     print_repaired(to, repaired, &output)
@@ -59,118 +51,96 @@ fn two_repaired<P: Print>(to: &P, vector: [u8; 7], checks: [u8; 4]) -> io::Resul
 
 // Values of two bytes, and so two planes: nothing near the first, and column 3 of the second wrong.
 fn planes_tried<P: Print>(to: &P) -> io::Result<()> {
-    let vector = [241u8, 241, 86, 86, 35, 35, 35, 35];
-    let checks = [22u8, 0, 77, 136];
+    let vector = [241, 241, 86, 86, 35, 35, 35, 35];
+    let checks = [22, 0, 77, 136];
     let mut output = [0u8; 8];
     let repaired = repair::repair(4, 1, 2, &vector, &checks, &mut output);
     print_repaired(to, repaired, &output)
 }
 
-fn print_told<P: Print>(to: &P, told: [u8; 32]) -> io::Result<()> {
-    let of_four = [told[0], told[1], told[2], told[3]];
-    print!(to; "told")?;
-    print_bytes(to, &of_four)
+// Column 1 of the exchange of 004, which closed round two.
+fn second_closed() -> Result<Column, Refusal> {
+    let mut column = column::open(4, 1, 1, 1, 7, b"\xf1")?;
+    column::take(&mut column, 2, b"\x11\x02\x00\x07\x56")?;
+    column::take(&mut column, 3, b"\x11\x03\x00\x07\x23")?;
+    column::take(&mut column, 4, b"\x11\x04\x00\x07\x23")?;
+    column::close(&mut column)?;
+    column::take(&mut column, 2, b"\x22\x02\x00\x07\x27\x4e")?;
+    column::take(&mut column, 3, b"\x22\x03\x00\x07\x52\x1e")?;
+    column::take(&mut column, 4, b"\x22\x04\x00\x07\x16\x3d")?;
+    column::close(&mut column)?;
+    Ok(column)
 }
 
-// Column 1 of the exchange of 004 in round two, whose closing tells it of all four.
+// What the closing of round two tells of all four.
 fn told_in_two<P: Print>(to: &P) -> io::Result<()> {
-    let opening = column::open(4, 1, 1, 1, 7, b"\xf1");
-    let two = column::take(opening.column, 2, b"\x11\x02\x00\x07\x56");
-    let three = column::take(two.column, 3, b"\x11\x03\x00\x07\x23");
-    let four = column::take(three.column, 4, b"\x11\x04\x00\x07\x23");
-    let one = column::close(four.column);
-    let second = column::take(one.column, 2, b"\x22\x02\x00\x07\x27\x4e");
-    let third = column::take(second.column, 3, b"\x22\x03\x00\x07\x52\x1e");
-    let fourth = column::take(third.column, 4, b"\x22\x04\x00\x07\x16\x3d");
-    let closed = column::close(fourth.column);
-    let column = closed.column;
-    let found = column.found;
-    let told = found.told_two;
-    print_told(to, told)
+    match second_closed() {
+        Ok(column) => print_bytes(to, "told", &column.found.told_two[..4]),
+        Err(refusal) => println!(to; "told {refusal}"),
+    }
 }
 
 fn opened<P: Print>(to: &P, n: u32) -> io::Result<()> {
     let outcome = column::open(n, 1, 1, 1, 0, b"\x07");
-    print!(to; "opening ")?;
-    print_answer(to, outcome.answer)
+    println!(to; "opening {}", refusal::answer(outcome.map(|_| ())))
 }
 
-// A column alone, through its three rounds.
+// What a column alone ends with, through its three rounds.
+fn held_alone() -> Result<Verdict, Refusal> {
+    let mut column = column::open(1, 0, 1, 1, 0, b"\x07")?;
+    column::close(&mut column)?;
+    column::close(&mut column)?;
+    column::close(&mut column)?;
+    column::result(&column)
+}
+
 fn alone<P: Print>(to: &P) -> io::Result<()> {
-    let opening = column::open(1, 0, 1, 1, 0, b"\x07");
-    let one = column::close(opening.column);
-    let two = column::close(one.column);
-    let three = column::close(two.column);
-    let held = column::result(three.column);
-    let values = held.values;
-    let confidences = held.confidences;
-    print!(to; "alone ")?;
-    print_answer(to, wide(values[0]))?;
-    print!(to; "confidence ")?;
-    print_answer(to, wide(confidences[0]))
-}
-
-// The level of a column that has finished with these values of four bytes.
-fn levelled<P: Print>(
-    to: &P,
-    n: u32,
-    t: u32,
-    values: [u8; 256],
-    confidences: [u8; 32],
-    expected: i64,
-) -> io::Result<()> {
-    let mut column = record::empty();
-    let mut who = column.who;
-    who.n = n;
-    who.t = t;
-    who.w = 4;
-    who.number = 1;
-    who.own = [1u8; 8];
-    let mut found = column.found;
-    found.values = values;
-    found.confidences = confidences;
-    column.who = who;
-    column.found = found;
-    column.round = 4;
-    let level = level::level(column);
-    if level.answer == 0 && level.level == expected {
-        println!(to; "level as worked out by hand")
-    } else {
-        println!(to; "another level")
+    match held_alone() {
+        Ok(held) => {
+            println!(to; "alone {}", held.values[0])?;
+            println!(to; "confidence {}", held.confidences[0])
+        }
+        Err(refusal) => println!(to; "alone {refusal}"),
     }
 }
 
-fn levels<P: Print>(to: &P) -> io::Result<()> {
-    let mut values = [0u8; 256];
-    let mut confidences = [0u8; 32];
-    confidences[0] = 2;
-    confidences[1] = 2;
-    confidences[2] = 2;
-    values[2] = 3;
-    values[3] = 232;
-    values[6] = 3;
-    values[7] = 236;
-    values[10] = 3;
-    values[11] = 242;
-    levelled(to, 4, 1, values, confidences, 1005)
+// A column of a group of n that has finished with these heights, which it is sure of, and holds no other column's.
+fn finished(n: u32, t: u32, heights: &[i32]) -> Column {
+    let mut column = record::empty();
+    let mut values = [0u8; VECTOR_ROOM];
+    let mut confidences = [0u8; MOST_COLUMNS];
+    for (value, height) in values.chunks_exact_mut(4).zip(heights) {
+        value.copy_from_slice(&height.to_be_bytes());
+    }
+    for (confidence, _) in confidences.iter_mut().zip(heights) {
+        *confidence = 2;
+    }
+    column.who = Identity {
+        n,
+        t,
+        w: 4,
+        number: 1,
+        run: 0,
+        own: [1u8; VALUE_ROOM],
+    };
+    column.found.values = values;
+    column.found.confidences = confidences;
+    column.round = 4;
+    column
 }
 
-fn levels_below_zero<P: Print>(to: &P) -> io::Result<()> {
-    let mut values = [255u8; 256];
-    let mut confidences = [0u8; 32];
-    confidences[0] = 2;
-    confidences[1] = 2;
-    values[3] = 251;
-    values[7] = 254;
-    levelled(to, 2, 0, values, confidences, -4)
+fn levelled<P: Print>(to: &P, column: &Column, expected: i64) -> io::Result<()> {
+    match level::level(column) {
+        Ok(found) if found.level == expected => println!(to; "level as worked out by hand"),
+        _ => println!(to; "another level"),
+    }
 }
 
 fn main(rt: HostRuntime) -> io::Result<()> {
-    print!(rt; "product ")?;
-    print_answer(&rt, wide(field::product(2, 128)))?;
-    checks_of(&rt, [241, 86, 35, 35])?;
-    checks_of(&rt, [241, 86, 35, 40])?;
-    checks_of(&rt, [241, 86, 35, 0])?;
+    println!(rt; "product {}", field::product(2, 128))?;
+    print_checks(&rt, [241, 86, 35, 35])?;
+    print_checks(&rt, [241, 86, 35, 40])?;
+    print_checks(&rt, [241, 86, 35, 0])?;
     repaired_by(&rt, [0, 136])?;
     repaired_by(&rt, [22, 61])?;
     repaired_by(&rt, [22, 77])?;
@@ -183,6 +153,6 @@ fn main(rt: HostRuntime) -> io::Result<()> {
     opened(&rt, 4)?;
     opened(&rt, 3)?;
     alone(&rt)?;
-    levels(&rt)?;
-    levels_below_zero(&rt)
+    levelled(&rt, &finished(4, 1, &[1000, 1004, 1010]), 1005)?;
+    levelled(&rt, &finished(2, 0, &[-5, -2]), -4)
 }

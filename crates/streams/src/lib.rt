@@ -16,6 +16,7 @@ pub fn read_full<R: Read>(input: &mut R, buffer: &mut [u8]) -> io::Result<usize>
     ensures err { OnErr result ((bs : List ℕ) × Consumes (R.remaining input.old) (R.remaining input.new) bs) }
 {
     let mut done = 0;
+    // No `for`: a turn goes on by as many bytes as its read brought.
     while done < buffer.len() {
         let n = input.read(&mut buffer[done..])?;
         if n == 0 {

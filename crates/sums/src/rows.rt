@@ -5,23 +5,22 @@
 ghost use Rattle.std.specs.Prelude.{◌≡◌, ◌+◌, ◌*◌, ◌≤◌, ◌<◌, length, get_or};
 ghost use Rattle.arrays.specs.Array.{Filled, Written};
 ghost use Rattle.field.specs.Field.{plus, power};
-ghost use Rattle.field.specs.Table.{Powers, Logarithms};
 ghost use Rattle.code.specs.Size.{most_checks, check_rows};
 ghost use Rattle.lanes.specs.Lanes.{row_width, ProductsAdded};
 ghost use Rattle.sums.specs.Rows.{ValuesAdded, RootLogarithms, Exponents, RootExponents, Lowered, CheckSums};
 
+use crate::places::step_back;
 use code::sizes::{CHECK_ROWS, MOST_CHECKS};
+use field::Tables;
 use lanes::ROW_WIDTH;
 
-// So many bytes of two lists from a place on, added into the rows.
+// So many bytes of two lists from a place on, added into the rows. One index serves the three, which start at different places.
 fn sum_bytes(a: &[u8], b: &[u8], from: usize, many: usize, rows: &mut [u8; CHECK_ROWS], to: usize)
     requires { (from + many ≤ length a.now) × (from + many ≤ length b.now) × (to + many ≤ check_rows) × (length rows.old ≡ check_rows) }
     ensures { Written to many (λ p. plus (get_or a.now (from + p) 0) (get_or b.now (from + p) 0)) rows.old rows.new }
 {
-    let mut p = 0;
-    while p < many {
+    for p in 0..many {
         rows[to + p] = field::sum(a[from + p], b[from + p]);
-        p += 1;
     }
 }
 
@@ -31,12 +30,8 @@ pub fn difference(own: &[u8], checks: &[u8], count: usize, size: usize) -> [u8; 
     ensures { ValuesAdded count size own.now checks.now result }
 {
     let mut rows = [0u8; CHECK_ROWS];
-    let mut from = 0;
-    let mut c = 0;
-    while c < count {
-        sum_bytes(own, checks, from, size, &mut rows, ROW_WIDTH * c);
-        from += size;
-        c += 1;
+    for c in 0..count {
+        sum_bytes(own, checks, c * size, size, &mut rows, ROW_WIDTH * c);
     }
     rows
 }
@@ -53,16 +48,13 @@ fn add_row(row: &[u8], constants: &[u8], sums: &mut [u8])
 }
 
 // The logarithms of the twenty roots, which come from the table that the generator is built of.
-fn root_logarithms(logarithms: &[u8; 256]) -> [u8; MOST_CHECKS]
-    requires { Logarithms logarithms.now }
+fn root_logarithms(tables: &Tables) -> [u8; MOST_CHECKS]
     ensures { RootLogarithms result }
 {
     let roots = code::roots::roots();
     let mut of_roots = [0u8; MOST_CHECKS];
-    let mut i = 0;
-    while i < MOST_CHECKS {
-        of_roots[i] = logarithms[roots[i] as usize];
-        i += 1;
+    for (i, root) in roots.iter().enumerate() {
+        of_roots[i] = tables.logarithms[usize::from(*root)];
     }
     of_roots
 }
@@ -73,23 +65,10 @@ fn root_exponents(logarithms: &[u8; MOST_CHECKS], count: usize) -> [u8; MOST_CHE
     ensures { RootExponents count count result }
 {
     let mut exponents = [0u8; MOST_CHECKS];
-    let mut i = 0;
-    while i < count {
-        let logarithm = logarithms[i] as usize;
-        exponents[i] = (logarithm * count % 255) as u8;
-        i += 1;
+    for (i, logarithm) in logarithms[..count].iter().enumerate() {
+        exponents[i] = (usize::from(*logarithm) * count % 255) as u8;
     }
     exponents
-}
-
-// A step back from an exponent of 2, below 255 again: 2^255 is 1. It stays in bytes, many of which are stepped at once.
-fn step_back_byte(exponent: u8, step: u8) -> u8
-    ensures { (exponent < 255 → result < 255) × (power 2 (result + step) ≡ power 2 exponent) }
-{
-    if exponent < step {
-        return exponent + (255 - step);
-    }
-    exponent - step
 }
 
 // From one power of each root to the one below, of all twenty roots: a number of turns that is known is worked off many at once.
@@ -97,53 +76,42 @@ fn lower(logarithms: &[u8; MOST_CHECKS], exponents: &mut [u8; MOST_CHECKS])
     requires { RootLogarithms logarithms.now × (length exponents.old ≡ most_checks) }
     ensures { Lowered most_checks exponents.old exponents.new }
 {
-    let mut i = 0;
-    while i < MOST_CHECKS {
-        exponents[i] = step_back_byte(exponents[i], logarithms[i]);
-        i += 1;
+    for (i, exponent) in exponents.iter_mut().enumerate() {
+        *exponent = step_back(*exponent, logarithms[i]);
     }
 }
 
 // The power of each of so many roots by its exponent, in front of the constants.
 fn put_root_powers(
-    powers: &[u8; 255],
+    tables: &Tables,
     exponents: &[u8; MOST_CHECKS],
     count: usize,
     constants: &mut [u8; MOST_CHECKS],
 )
-    requires { Powers powers.now × (count ≤ most_checks) × Exponents count exponents.now × (length constants.old ≡ most_checks) }
+    requires { (count ≤ most_checks) × Exponents count exponents.now × (length constants.old ≡ most_checks) }
     ensures { Written 0 count (λ i. power 2 (get_or exponents.now i 0)) constants.old constants.new }
 {
-    let mut i = 0;
-    while i < count {
-        constants[i] = powers[exponents[i] as usize];
-        i += 1;
+    for (i, exponent) in exponents[..count].iter().enumerate() {
+        constants[i] = tables.powers[usize::from(*exponent)];
     }
 }
 
 // The syndromes of the difference: check c's byte belongs to the power count - 1 - c of each root. The exponents start one
 // power above the first row's and are lowered before each row.
-pub fn syndromes(
-    powers: &[u8; 255],
-    logarithms: &[u8; 256],
-    difference: &[u8],
-    count: usize,
-) -> [u8; CHECK_ROWS]
-    requires { Powers powers.now × Logarithms logarithms.now × (count ≤ most_checks) × (row_width * count ≤ length difference.now) }
+pub fn syndromes(tables: &Tables, difference: &[u8], count: usize) -> [u8; CHECK_ROWS]
+    requires { (count ≤ most_checks) × (row_width * count ≤ length difference.now) }
     ensures { CheckSums count count difference.now result }
 {
-    let of_roots = root_logarithms(logarithms);
+    let of_roots = root_logarithms(tables);
     let mut exponents = root_exponents(&of_roots, count);
     let mut constants = [0u8; MOST_CHECKS];
     let mut sums = [0u8; CHECK_ROWS];
-    let mut c = 0;
-    while c < count {
+    for c in 0..count {
         lower(&of_roots, &mut exponents);
-        put_root_powers(powers, &exponents, count, &mut constants);
+        put_root_powers(tables, &exponents, count, &mut constants);
         let at = ROW_WIDTH * c;
         let end = at + ROW_WIDTH;
         add_row(&difference[at..end], &constants[..count], &mut sums);
-        c += 1;
     }
     sums
 }

@@ -7,6 +7,8 @@ use native.Mathlib.Omega.{arith}
 use lib.Dec.{ltb}
 use lib.ListN.{length}
 use borrow.Author.Tests.{lt-ltb, le-ltb}
+use Rattle.refusal.specs.Number.{number_of}
+use Rattle.refusal.specs.declared.Refusal.{Refusal}
 use Rattle.bench.specs.Listing.{digit, decimal}
 
 pub one_digit : (n : ℕ) → n < 10 → decimal n ≡ digit n
@@ -54,3 +56,6 @@ two_short n h = rw (lt-ltb n 100 h) (go (ltb n 10))
     go : (a : Bool) → length (cond a (digit n) (digit (n / 10) ++ digit (n % 10))) ≤ 2
     go true = omega arith
     go false = omega arith
+
+pub number_short : (e : Refusal) → number_of e < 1000
+number_short e = grind arith

@@ -1,9 +1,12 @@
--- The output by what a file comes to: a refusal has a number that is not 0, and what is printed of a run depends only on the values and
+-- The output by what a file comes to: a refusal's number, or what the run comes to; and what is printed of a run depends only on the values and
 -- confidences at its end. The answer stays within the output. Assumes nothing.
 use mathlib.Core.Path.{◌≡◌, refl, sym, ◌∙◌, ap}
 use mathlib.Core.Bool.{Bool, true, false}
 use mathlib.Core.List.{List, ◌++◌}
 use Prim.Native.Nat.{ℕ, ◌≤◌}
+use Rattle.std.specs.Prelude.{Ok, Err}
+use Rattle.refusal.specs.Number.{number_of}
+use Rattle.refusal.specs.declared.Refusal.{Refusal}
 use native.Mathlib.Omega.{arith}
 use lib.Dec.{ltb}
 use lib.ListN.{length, drop, length-append}
@@ -22,21 +25,15 @@ use Rattle.bench.specs.Steps.Running.{GroupRan}
 use Rattle.bench_file.specs.declared.places.Places.{Places}
 use Rattle.bench.proofs.Listing.Wording.{lines_same}
 
-module _ (file : List ℕ) (answer : ℕ) (p : Places) where
-  pub answer_small : (t : Parse) → ParsedAs t file answer p → answer ≤ 20
-  unfolding ParsedAs
-  answer_small (refused n) h = omega (arith, h.0, h.2)
-  answer_small (parsed f) h = omega (arith, h.0)
+pub refused_printed : (file : List ℕ) (e : Refusal) (t : Parse) → ParsedAs t file (Err e) → Printed t (refused_line (number_of e))
+unfolding ParsedAs Printed
+refused_printed file e (refused n) h = ap refused_line h
+refused_printed file e (parsed f) h = absurd h
 
-  pub refused_printed : (t : Parse) → ParsedAs t file answer p → (answer ≡ 0 → ⊥) → Printed t (refused_line answer)
-  unfolding ParsedAs Printed
-  refused_printed (refused n) h e = ap refused_line h.0
-  refused_printed (parsed f) h e = absurd (e h.0)
-
-  pub parsed_located : (t : Parse) → ParsedAs t file answer p → answer ≡ 0 → (f : Scenario) × (t ≡ parsed f) × Located file p f
-  unfolding ParsedAs
-  parsed_located (refused n) h e = absurd (h.1 (sym h.0 ∙ e))
-  parsed_located (parsed f) h e = (f, refl, h.1)
+pub parsed_located : (file : List ℕ) (p : Places) (t : Parse) → ParsedAs t file (Ok p) → (f : Scenario) × (t ≡ parsed f) × Located file p f
+unfolding ParsedAs
+parsed_located file p (refused n) h = absurd h
+parsed_located file p (parsed f) h = (f, refl, h)
 
 -- the listing of the run
 pub run_printed : (t : Parse) (f : Scenario) (columns : List Column) → t ≡ parsed f → GroupRan f columns → Printed t (listing f (λ k. (record_of columns k).found.held))

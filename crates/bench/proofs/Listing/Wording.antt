@@ -8,7 +8,7 @@ use native.Mathlib.Numerals.{add-one}
 use native.Mathlib.Omega.{arith}
 use lib.ListN.{length, get_or, take, drop, length-append, length-take}
 use lib.Seq.{drop-cons}
-use Rattle.code.specs.Settings.{settings, value_size}
+use Rattle.code.specs.Settings.{Settings, settings, value_size}
 use Rattle.code.specs.Size.{most_columns, value_room, vector_room}
 use Rattle.code.specs.Vector.{cut}
 use Rattle.code.specs.Entry.{values_in}
@@ -65,9 +65,9 @@ pub held_entry : (n w : ℕ) → (values confidences : List ℕ) → ℕ → Hel
 held_entry n w vs cs j = held_as (get_or (values_in (settings n 0 w) n vs) j []) (get_or cs j 0)
 
 pub holdings_all :
-    (n w : ℕ) (vs cs : List ℕ) → holdings_text (held_in (settings n 0 w) vs cs) ≡ holdings_text (entries (n - 0) 0 (held_entry n w vs cs))
-unfolding held_in held_entry settings
-holdings_all n w vs cs = let e : n - 0 ≡ n = omega arith in rw e refl
+    (s : Settings) (vs cs : List ℕ) → holdings_text (held_in s vs cs) ≡ holdings_text (entries (s.n - 0) 0 (held_entry s.n s.w vs cs))
+unfolding held_in held_entry settings values_in value_size
+holdings_all s vs cs = let e : s.n - 0 ≡ s.n = omega arith in rw e refl
 
 pub holdings_none : (f : ℕ → Held) (j : ℕ) → holdings_text (entries 0 j f) ≡ []
 unfolding holdings_text entries
@@ -113,15 +113,11 @@ holdings_short (suc k) j n w vs cs h l =
     held_short_at : (i : ℕ) → length (held_text (held_entry n w vs cs i)) ≤ 35
     held_short_at i = held_short (get_or (values_in (settings n 0 w) n vs) i []) (get_or cs i 0) (value_length n w vs i h)
 
-pub line_short : (k n w : ℕ) (vs cs : List ℕ) → k < 100 → n ≤ most_columns → w ≤ value_room → length (column_line k (held_in (settings n 0 w) vs cs)) ≤ line_room
-unfolding column_line held_in held_entry settings
-line_short k n w vs cs h l m =
-    simp length-append (omega (arith, two_short k h, holdings_short n 0 n w vs cs m (omega arith)))
-
--- t plays no part in a line
-pub held_alike : (n t w : ℕ) (vs cs : List ℕ) → held_in (settings n t w) vs cs ≡ held_in (settings n 0 w) vs cs
-unfolding held_in values_in settings value_size
-held_alike n t w vs cs = refl
+pub line_short :
+    (k : ℕ) (s : Settings) (vs cs : List ℕ) → k < 100 → s.n ≤ most_columns → s.w ≤ value_room → length (column_line k (held_in s vs cs)) ≤ line_room
+unfolding column_line held_in held_entry settings values_in value_size
+line_short k s vs cs h l m =
+    simp length-append (omega (arith, two_short k h, holdings_short s.n 0 s.n s.w vs cs m (omega arith)))
 
 -- the lines of all columns
 pub lines_all : (f : Scenario) (held : ℕ → List Held) (n : ℕ) → column_lines f held n 1 ≡ column_lines f held (n + 1 - 1) 1

@@ -1,23 +1,29 @@
 -- What it says that a command is not turned down: it is one of the four, all its bytes are there, and its columns and round are those that
 -- there are. Each line is a test, and a chain of lines ends at 0 only if every line does. Assumes nothing.
-use mathlib.Core.Path.{◌≡◌, refl, sym, ◌∙◌, ap, subst}
+use mathlib.Core.Path.{◌≡◌, refl, sym, ◌∙◌, ap}
 use mathlib.Core.Bool.{Bool, true, false, cond, ◌&&◌, ◌||◌, not}
 use mathlib.Core.List.{List, [], ◌∷◌}
 use mathlib.Core.Logic.{◌⊎◌, inl, inr}
 use Prim.Native.Nat.{ℕ, ◌+◌, ◌≤◌}
 use native.Mathlib.Omega.{arith}
 use lib.Dec.{eqb, leb, ltb}
-use lib.ListN.{length, get_or, take, drop, length-drop}
+use lib.ListN.{length, get_or, take, drop}
 use lib.Seq.{get_or-drop, drop-drop}
 use borrow.Author.Tests.{eqb-true, leb-true, ltb-false, not-false, eq-eqb, ne_eqb}
 use Rattle.code.specs.Settings.{Settings, settings, value_size, check_count}
+use Rattle.code.specs.Size.{most_columns, value_room}
+use Rattle.code.specs.declared.settings.Settings.{Settings as Allowed}
+use Rattle.code.proofs.ValidSettings.{bounds}
 use Rattle.arrays.proofs.Bool.{and_split, true_not_false}
 use Rattle.record.specs.Frame.{operand_size}
 use Rattle.record.specs.Refusal.{first_of, blank_refusal}
+use Rattle.record.proofs.Refusal.{first_of_next, first_of_last}
 use Rattle.bench_file.specs.Scenario.{Scenario}
 use Rattle.bench_file.specs.Command.{command_in, is_known, head_size, body_size, command_size, body_in, no_message, form_fault, form_refusal, round_in, from_in, to_in, is_column, column_refusal, message_refusal, checks_round_refusal, operand_refusal, value_refusal}
-use Rattle.bench_file.specs.Steps.CommandAt.{value_fault}
-use Rattle.bench_file.specs.declared.places.Places.{Places}
+use Rattle.bench_file.specs.Steps.Places.{group_of}
+use Rattle.bench_file.specs.Steps.CommandAt.{code_of, Says, value_fault}
+use Rattle.bench_file.specs.declared.commands.Command.{Command}
+use Rattle.bench_file.specs.declared.commands.Command.TheVariants.{Own, Value, Checks, End}
 
 pub byte_in : (file : List ℕ) (at i : ℕ) → get_or (drop at file) i 0 ≡ get_or file (at + i) 0
 byte_in file at i = get_or-drop at file i 0
@@ -92,22 +98,19 @@ not_not : (q : Bool) → not (not q) ≡ q
 not_not true = refl
 not_not false = refl
 
--- n plays no part in a command's size
-pub size_alike : (n t w c : ℕ) → command_size (settings n t w) c ≡ command_size (settings 0 t w) c
-unfolding command_size body_size operand_size check_count value_size settings
-size_alike n t w c = refl
-
 pub form_as :
-    (f : Scenario) (p : Places) (bs : List ℕ) {c left : ℕ} → f.settings ≡ settings p.n p.t p.w →
-    no_message f.messages ≡ not p.late → command_in bs ≡ c → length bs ≡ left →
-    form_refusal f bs ≡ form_fault (settings 0 p.t p.w) p.late c left
+    (f : Scenario) (s : Settings) (late : Bool) (bs : List ℕ) {c left : ℕ} → f.settings ≡ s → no_message f.messages ≡ not late →
+    command_in bs ≡ c → length bs ≡ left → form_refusal f bs ≡ form_fault s late c left
+unfolding form_refusal
+form_as f s late bs {c} {left} e g h l = rw (h, l, e, g, not_not late) refl
+
+pub form_unknown : (f : Scenario) (bs : List ℕ) → is_known (command_in bs) ≡ false → form_refusal f bs ≡ 19
 unfolding form_refusal form_fault
-form_as f p bs {c} {left} e g h l = rw (h, l, e, g, not_not p.late, size_alike p.n p.t p.w c) refl
+form_unknown f bs e = rw e refl
 
 -- a test on a column, by the settings that there are
-pub column_as : (f : Scenario) (n t w k : ℕ) {q : Bool} → f.settings ≡ settings n t w → is_column n k ≡ q → is_column f.settings.n k ≡ q
-unfolding settings
-column_as f n t w k e h = rw e h
+pub column_as : (f : Scenario) (s : Settings) (k : ℕ) {q : Bool} → f.settings ≡ s → is_column s.n k ≡ q → is_column f.settings.n k ≡ q
+column_as f s k e h = rw e h
 
 -- 20, by the command
 pub operand_end : (f : Scenario) (bs : List ℕ) → command_in bs ≡ 15 → operand_refusal f bs ≡ 0
@@ -156,11 +159,59 @@ value_as f file at w {c} h e = rw e (go (eqb c 4) refl)
     go true g = ap blank_refusal (body_own f.settings file at w h (e ∙ eqb-true c 4 g))
     go false g = refl
 
--- a command that is all there
-pub own_fits :
-    (f : Scenario) (file : List ℕ) (at : ℕ) (p : Places) → f.settings ≡ settings p.n p.t p.w → at ≤ length file →
-    command_size f.settings (command_in (drop at file)) ≤ length (drop at file) → command_in (drop at file) ≡ 4 → at + (2 + p.w) ≤ length file
-unfolding command_size head_size body_size operand_size value_size settings
-own_fits f file at p s inside h e =
-    let size : 2 + p.w ≤ length (drop at file) = subst (λ x. 2 + x.w ≤ length (drop at file)) s (rw e at h) in
-    omega (arith, length-drop at file)
+-- the length of an own command
+pub own_size : (s : Settings) → command_size s 4 ≡ 2 + s.w
+unfolding command_size head_size body_size operand_size value_size
+own_size s = refl
+
+-- 20, by what the command says
+pub operand_says_own : (f : Scenario) (bs : List ℕ) (k : ℕ) → Says bs (Own k) → operand_refusal f bs ≡ column_refusal f k
+operand_says_own f bs k h = operand_own f bs h.0 ∙ ap (column_refusal f) h.1
+
+pub heading_value : (bs : List ℕ) (k l : ℕ) → Says bs (Value k l) → (round_in bs ≡ 1) × (from_in bs ≡ k) × (to_in bs ≡ l)
+unfolding round_in from_in to_in
+heading_value bs k l h = rw h.0 (refl, h.1, h.2)
+
+pub heading_checks : (bs : List ℕ) (m k l : ℕ) → Says bs (Checks m k l) → (round_in bs ≡ m) × (from_in bs ≡ k) × (to_in bs ≡ l)
+unfolding round_in from_in to_in
+heading_checks bs m k l h = rw h.0 (h.1, h.2, h.3)
+
+pub operand_says_value : (f : Scenario) (bs : List ℕ) (k l : ℕ) → Says bs (Value k l) → operand_refusal f bs ≡ message_refusal f 1 k l
+unfolding checks_round_refusal
+operand_says_value f bs k l h =
+    let says = heading_value bs k l h in
+    operand_message f bs {c = 2} (λ z. absurd (omega (arith, z))) (λ z. absurd (omega (arith, z))) h.0 says.0 says.1 says.2 ∙ first_of_next _ refl (first_of_last _)
+
+pub operand_says_checks :
+    (f : Scenario) (bs : List ℕ) (m k l : ℕ) → Says bs (Checks m k l) →
+    operand_refusal f bs ≡ first_of (checks_round_refusal 3 m ∷ message_refusal f m k l ∷ [])
+operand_says_checks f bs m k l h =
+    let says = heading_checks bs m k l h in
+    operand_message f bs {c = 3} (λ z. absurd (omega (arith, z))) (λ z. absurd (omega (arith, z))) h.0 says.0 says.1 says.2
+
+-- the command's byte is that of what it says
+pub says_code : (bs : List ℕ) (c : Command) → Says bs c → command_in bs ≡ code_of c
+says_code bs (Own k) h = h.0
+says_code bs (Value k l) h = h.0
+says_code bs (Checks m k l) h = h.0
+says_code bs End h = h
+
+-- n plays no part in an operand's size
+pub operand_alike : (s : Allowed) (m : ℕ) → operand_size (settings 0 s.t s.w) m ≡ operand_size (group_of s) m
+unfolding operand_size check_count value_size settings
+operand_alike s m = refl
+
+pub small_settings : (s : Allowed) → (s.n ≤ most_columns) × (s.t ≤ 10) × (s.w ≤ value_room)
+small_settings s = let b = bounds _ _ _ s.allowed in omega (arith, b.0, b.1, b.2)
+
+pub not_own : (c : Command) → ((k : ℕ) → c ≡ Own k → ⊥) → eqb (code_of c) 4 ≡ false
+not_own (Own k) h = absurd (h k refl)
+not_own (Value k l) h = refl
+not_own (Checks m k l) h = refl
+not_own End h = refl
+
+pub not_end : (c : Command) → (c ≡ End → ⊥) → code_of c ≡ 15 → ⊥
+not_end (Own k) h e = absurd (omega (arith, e))
+not_end (Value k l) h e = absurd (omega (arith, e))
+not_end (Checks m k l) h e = absurd (omega (arith, e))
+not_end End h e = h refl

@@ -1,23 +1,27 @@
 -- What a command that is not turned down says, and where its value or check values stand. An own value is one to open with, since every
 -- line of opening was tested; a message of rounds two and three has the size of its round's operand. Assumes nothing.
-use mathlib.Core.Path.{◌≡◌, refl, sym, ◌∙◌, ap}
+use mathlib.Core.Path.{◌≡◌, refl, sym, ◌∙◌, ap, ap₂}
 use mathlib.Core.Bool.{true}
 use mathlib.Core.List.{List}
+use mathlib.Core.Option.{some}
+use Rattle.std.specs.Prelude.{Some}
 use mathlib.Core.Logic.{◌⊎◌, inl, inr}
 use Prim.Native.Nat.{ℕ, ◌+◌, ◌≤◌}
 use native.Mathlib.Omega.{arith}
 use lib.ListN.{length, get_or, take, drop, length-drop}
 use lib.Seq.{drop-drop, length-take-le}
 use borrow.Author.Tests.{eq-eqb, ne_eqb, le-leb}
-use Rattle.code.specs.Settings.{Settings, settings, settings_refusal}
+use Rattle.code.specs.Settings.{Settings, settings_refusal}
 use Rattle.grading.specs.Value.{Value}
 use Rattle.record.specs.Frame.{operand_size}
 use Rattle.record.specs.Refusal.{line, number_refusal, size_refusal, blank_refusal, open_refusal}
 use Rattle.record.proofs.Refusal.{first_of_zero, first_of_next, first_of_last}
 use Rattle.bench_file.specs.Scenario.{Scenario, Message, message, with_own, with_message}
-use Rattle.bench_file.specs.Command.{command_in, is_known, head_size, body_size, command_size, body_in, form_refusal, round_in, message_in, checks_round_refusal, operand_refusal, value_refusal, command_refusal, after_command}
-use Rattle.bench_file.specs.declared.places.Places.{Places}
-use Rattle.bench_file.proofs.OneCommand.Faults.{form_fits, own_inside, MessageInside, message_inside, heading_round, round_inside, known_cases, body_own, operand_own, operand_message, own_fits}
+use Rattle.bench_file.specs.Command.{command_in, is_known, head_size, body_size, command_size, body_in, form_refusal, round_in, from_in, to_in, message_in, checks_round_refusal, operand_refusal, value_refusal, command_refusal, after_command}
+use Rattle.bench_file.specs.Steps.Places.{BytesAt}
+use Rattle.bench_file.specs.Steps.CommandAt.{Says}
+use Rattle.bench_file.specs.declared.commands.Command.TheVariants.{Own}
+use Rattle.bench_file.proofs.OneCommand.Faults.{form_fits, own_inside, MessageInside, message_inside, heading_round, round_inside, known_cases, body_own, operand_own, operand_message, own_size}
 
 -- all lines passed
 record Passed (f : Scenario) (bs : List ℕ) : Type 0 where
@@ -41,45 +45,32 @@ opens_with s k v fine low high size filled =
     let long : size_refusal s.w v ≡ 0 = rw (eq-eqb (length v) s.w size) refl in
     first_of_next _ fine (first_of_next _ number (first_of_next _ long (first_of_last _ ∙ filled)))
 
--- the settings, by number
-pub columns : (f : Scenario) (p : Places) → f.settings ≡ settings p.n p.t p.w → f.settings.n ≡ p.n
-unfolding settings
-columns f p e = ap (λ (s : Settings). s.n) e
-
-bytes : (f : Scenario) (p : Places) → f.settings ≡ settings p.n p.t p.w → f.settings.w ≡ p.w
-unfolding settings
-bytes f p e = ap (λ (s : Settings). s.w) e
-
 -- an own value
-pub record OwnRead (file : List ℕ) (p : Places) (f : Scenario) (at k : ℕ) (v : Value) : Type 0 where
-  pub low : 1 ≤ k
-  pub high : k ≤ p.n
-  pub size : at + 2 + p.w ≤ length file
-  pub value : v ≡ take p.w (drop (at + 2) file)
+pub record OwnRead (file : List ℕ) (f : Scenario) (at k : ℕ) (v : Value) : Type 0 where
+  pub size : at + 2 + f.settings.w ≤ length file
+  pub value : v ≡ take f.settings.w (drop (at + 2) file)
   pub opens : open_refusal f.settings k v ≡ 0
   pub after : after_command f (drop at file) ≡ with_own f k v
 
 pub own_read :
-    (file : List ℕ) (p : Places) (f : Scenario) (at : ℕ) → f.settings ≡ settings p.n p.t p.w → settings_refusal f.settings ≡ 0 → at ≤ length file → command_refusal f (drop at file) ≡ 0 →
-    command_in (drop at file) ≡ 4 → OwnRead file p f at (get_or (drop at file) 1 0) (body_in f.settings (drop at file))
+    (file : List ℕ) (f : Scenario) (at : ℕ) → settings_refusal f.settings ≡ 0 → at ≤ length file → command_refusal f (drop at file) ≡ 0 →
+    command_in (drop at file) ≡ 4 → OwnRead file f at (get_or (drop at file) 1 0) (body_in f.settings (drop at file))
 unfolding after_command value_refusal
-own_read file p f at same fine inside e own =
+own_read file f at fine inside e own =
     let bs = drop at file in
     let lines = passed f bs e in
     let column = own_inside f _ (sym (operand_own f bs own) ∙ lines.operand) in
-    let n : f.settings.n ≡ p.n = columns f p same in
-    let w : f.settings.w ≡ p.w = bytes f p same in
-    let fits = own_fits f file at p same inside (form_fits f bs lines.form).1 own in
-    let value = body_own f.settings file at p.w w own in
-    let long : length (body_in f.settings bs) ≡ p.w =
-    ap length value ∙ length-take-le p.w (drop (at + 2) file) (omega (arith, length-drop (at + 2) file, fits)) in
+    let w = f.settings.w in
+    let fits : command_size f.settings 4 ≤ length bs = rw own at (form_fits f bs lines.form).1 in
+    let there : at + 2 + w ≤ length file = omega (arith, fits, own_size f.settings, length-drop at file) in
+    let value = body_own f.settings file at w refl own in
+    let long : length (body_in f.settings bs) ≡ w =
+    ap length value ∙ length-take-le w (drop (at + 2) file) (omega (arith, length-drop (at + 2) file, there)) in
     let filled : blank_refusal (body_in f.settings bs) ≡ 0 = rw (eq-eqb (command_in bs) 4 own) at lines.value in
     record {
-      low = column.0;
-      high = omega (arith, column.1, n);
-      size = omega (arith, fits);
+      size = there;
       value = value;
-      opens = opens_with f.settings _ _ fine column.0 column.1 (long ∙ sym w) filled;
+      opens = opens_with f.settings _ _ fine column.0 column.1 long filled;
       after = rw (eq-eqb (command_in bs) 4 own) refl;
     }
 
@@ -146,3 +137,37 @@ same_message {m} {k} {l} {x} a b c = rw (a, b, c) refl
 pub command_fits :
     (file : List ℕ) (f : Scenario) (at : ℕ) → at ≤ length file → command_refusal f (drop at file) ≡ 0 → at + command_size f.settings (command_in (drop at file)) ≤ length file
 command_fits file f at inside e = omega (arith, (form_fits f (drop at file) (passed f (drop at file) e).form).1, length-drop at file)
+
+-- what is put for a command: an own value, or a message, at the place behind its head
+pub own_put :
+    (file : List ℕ) (f : Scenario) (at body k w : ℕ) → f.settings.w ≡ w → settings_refusal f.settings ≡ 0 → at ≤ length file →
+    command_refusal f (drop at file) ≡ 0 → Says (drop at file) (Own k) → body ≡ at + head_size 4 →
+    BytesAt file w (Some body) (some (body_in f.settings (drop at file))) × (open_refusal f.settings k (body_in f.settings (drop at file)) ≡ 0)
+    × (after_command f (drop at file) ≡ with_own f k (body_in f.settings (drop at file)))
+unfolding head_size BytesAt
+own_put file f at body k w bytes fine inside e says same =
+    let r = own_read file f at fine inside e says.0 in
+    let v = body_in f.settings (drop at file) in (
+      (omega (arith, same, bytes, r.size), r.value ∙ ap₂ (λ (m i : ℕ). take m (drop i file)) bytes (sym same)),
+      ap (λ (i : ℕ). open_refusal f.settings i v) (sym says.1) ∙ r.opens,
+      r.after ∙ ap (λ (i : ℕ). with_own f i v) says.1,
+    )
+
+pub message_put :
+    (file : List ℕ) (f : Scenario) (at body m k l : ℕ) → at ≤ length file → command_refusal f (drop at file) ≡ 0 →
+    (command_in (drop at file) ≡ 4 → ⊥) → (command_in (drop at file) ≡ 15 → ⊥) →
+    (round_in (drop at file) ≡ m) × (from_in (drop at file) ≡ k) × (to_in (drop at file) ≡ l) → body ≡ at + head_size (command_in (drop at file)) →
+    let x = (message_in f.settings (drop at file)).operand in
+    BytesAt file (operand_size f.settings m) (Some body) (some x) × (after_command f (drop at file) ≡ with_message f (message m k l x))
+unfolding message_in message BytesAt
+message_put file f at body m k l inside e no_own no_end says same =
+    let bs = drop at file in
+    let r = message_read file f at inside e no_own no_end in
+    let size = ap (operand_size f.settings) says.0 in (
+      (
+        omega (arith, same, size, r.size),
+        r.operand ∙ ap (λ (i : ℕ). take i (drop (at + head_size (command_in bs)) file)) size
+            ∙ ap (λ (i : ℕ). take (operand_size f.settings m) (drop i file)) (sym same),
+      ),
+      r.after ∙ ap (with_message f) (sym (same_message (sym says.0) (sym says.1) (sym says.2))),
+    )

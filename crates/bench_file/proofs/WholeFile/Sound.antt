@@ -2,20 +2,19 @@
 -- as its command is read. Command by command. Assumes nothing.
 use mathlib.Core.Path.{◌≡◌, refl, sym}
 use mathlib.Core.Bool.{Bool, true, false, cond, not}
-use mathlib.Core.List.{List, []}
+use mathlib.Core.List.{List}
 use mathlib.Core.Option.{some}
 use Prim.Native.Nat.{ℕ, zero, suc}
 use native.Mathlib.Omega.{arith}
 use lib.Dec.{eqb, ltb}
 use lib.ListN.{length, get_or, drop}
 use borrow.Author.Tests.{eqb-true}
-use Rattle.code.specs.Settings.{settings, settings_refusal}
+use Rattle.code.specs.Settings.{settings_refusal}
 use Rattle.grading.specs.Value.{Value}
 use Rattle.record.specs.Refusal.{open_refusal}
 use Rattle.bench_file.specs.Scenario.{Scenario, only_settings, with_own, with_message, own_of}
 use Rattle.bench_file.specs.Command.{command_in, command_size, body_in, message_in, command_refusal, after_command}
 use Rattle.bench_file.specs.File.{refused, parsed, longest_file, group_in, group_refusal, commands_from, parse_commands, parse_file}
-use Rattle.bench_file.specs.declared.places.Places.{Places}
 use Rattle.bench_file.proofs.Located.{none_some, own_opens}
 use Rattle.bench_file.proofs.OneCommand.Readings.{own_read}
 use Rattle.bench_file.proofs.WholeFile.Commands.{group_fits}
@@ -33,11 +32,10 @@ parsed_same e = cc
 
 -- one command
 own_sound : (f : Scenario) (bs : List ℕ) → Sound f → command_refusal f bs ≡ 0 → command_in bs ≡ 4 → Sound (with_own f (get_or bs 1 0) (body_in f.settings bs))
-unfolding with_own own_of settings
+unfolding with_own own_of
 own_sound f bs h e own =
     let s = f.settings in
-    let p : Places = record { n = s.n; t = s.t; w = s.w; owns = []; messages = []; late = false } in
-    let r = own_read bs p f 0 refl h.fine (omega arith) e own in
+    let r = own_read bs f 0 h.fine (omega arith) e own in
     record { fine = h.fine; opens = λ k v g. own_opens s (get_or bs 1 0) (body_in s bs) f.owns r.opens h.opens k v g }
 
 after_sound : (f : Scenario) (bs : List ℕ) → Sound f → command_refusal f bs ≡ 0 → Sound (after_command f bs)

@@ -1,7 +1,8 @@
 -- The places in a bench file where values and check values stand, read as what the file says. Assumes nothing: these are definitions.
-use Rattle.std.specs.Prelude.{◌≡◌, not, List, ℕ, ◌+◌, ◌*◌, ◌-◌, ◌≤◌, length, get_or, take, drop}
+use Rattle.std.specs.Prelude.{◌≡◌, not, Option as Place, Some, None, List, ℕ, ◌+◌, ◌*◌, ◌-◌, ◌≤◌, length, get_or, take, drop}
 use Rattle.std.proofs.Math.Option.{Option, none, some}
-use Rattle.code.specs.Settings.{settings, settings_refusal}
+use Rattle.code.specs.Settings.{Settings as Group}
+use Rattle.code.specs.declared.settings.Settings.{Settings}
 use Rattle.code.specs.Size.{most_columns}
 use Rattle.grading.specs.Value.{Value}
 use Rattle.record.specs.Frame.{operand_size}
@@ -10,10 +11,16 @@ use Rattle.bench_file.specs.Scenario.{Scenario, own_of, message_of}
 use Rattle.bench_file.specs.Command.{no_message}
 use Rattle.bench_file.specs.declared.places.Places.{Places}
 
--- so many bytes that stand at a place, or none at place 0
-unfoldable pub BytesAt : (file : List ℕ) → (size at : ℕ) → Option (List ℕ) → Type 0
-BytesAt file size at none = at ≡ 0
-BytesAt file size at (some x) = (at ≡ 0 → ⊥) × (at + size ≤ length file) × (x ≡ take size (drop at file))
+-- the settings, as the definitions have them
+abbrev pub group_of : Settings → Group
+group_of s = record { n = s.n; t = s.t; w = s.w }
+
+-- so many bytes that stand at a place, or none where there is none
+unfoldable pub BytesAt : (file : List ℕ) → (size : ℕ) → (at : Place ℕ) → Option (List ℕ) → Type 0
+BytesAt file size None none = Unit {0}
+BytesAt file size None (some x) = ⊥
+BytesAt file size (Some at) none = ⊥
+BytesAt file size (Some at) (some x) = (at + size ≤ length file) × (x ≡ take size (drop at file))
 
 -- how many messages there may be: of each round, from each column to each
 abbrev pub most_messages : ℕ
@@ -34,12 +41,11 @@ pub record MessageRange (round from to : ℕ) : Type 0 where
 
 -- the places of all that was said so far; an own value can be opened with
 pub record Located (file : List ℕ) (p : Places) (f : Scenario) : Type 0 where
-  pub settings : f.settings ≡ settings p.n p.t p.w
-  pub fine : settings_refusal f.settings ≡ 0
-  pub owns : (k : ℕ) → 1 ≤ k → k ≤ most_columns → BytesAt file p.w (get_or p.owns (k - 1) 0) (own_of f.owns k)
+  pub settings : f.settings ≡ group_of p.settings
+  pub owns : (k : ℕ) → 1 ≤ k → k ≤ most_columns → BytesAt file p.settings.w (get_or p.owns (k - 1) None) (own_of f.owns k)
   pub messages :
       (m k l : ℕ) → MessageRange m k l →
-      BytesAt file (operand_size f.settings m) (get_or p.messages (message_index m k l) 0) (message_of f.messages m k l)
+      BytesAt file (operand_size f.settings m) (get_or p.messages (message_index m k l) None) (message_of f.messages m k l)
   pub late : no_message f.messages ≡ not p.late
   pub opens : (k : ℕ) (v : Value) → own_of f.owns k ≡ some v → open_refusal f.settings k v ≡ 0
 

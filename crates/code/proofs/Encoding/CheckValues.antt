@@ -8,13 +8,13 @@ use native.Mathlib.Omega.{arith}
 use lib.ListN.{length, get_or, take, drop, length-drop, length-reverse}
 use lib.Seq.{ext_get_or, get_or-take, get_or-drop, length-take-le}
 use Rattle.field.specs.Field.{times, inverse, power}
-use Rattle.code.specs.Size.{value_room, window_room, windows_room}
+use Rattle.code.specs.Size.{value_room, window_room}
 use Rattle.code.specs.Settings.{Settings, settings, settings_refusal, check_count, value_size}
 use Rattle.code.specs.Polynomial.{eval, added, root, generator}
 use Rattle.code.specs.Plane.{is_codeword}
 use Rattle.code.specs.Vector.{plane, cut}
 use Rattle.code.specs.Entry.{values_in, ChecksPut}
-use Rattle.code.specs.Steps.Windows.{window, taken_in, FeedbackOf, Divided, Stored}
+use Rattle.code.specs.Steps.Windows.{Shaped, window, taken_in, FeedbackOf, Divided, Stored}
 use Rattle.arrays.proofs.Bytes.{Bytes, bytes_drop, get_or_reverse}
 use Rattle.code.proofs.Polynomials.Generator.{root_lt}
 use Rattle.code.proofs.ValidSettings.{Sizes, sizes}
@@ -25,12 +25,12 @@ use Rattle.code.proofs.Encoding.Division.{divided_codeword}
 use Rattle.code.proofs.Encoding.Windows.{window_length, window_at, window_bytes, coming_length}
 
 -- what the windows have behind the columns, as it is stored
-module _ (n count size p : ℕ) (windows out now : List ℕ) (inside : p < size) (few : size ≤ value_room) (narrow : n + count ≤ window_room) (long : length windows ≡ windows_room) where
+module _ (n count size p : ℕ) (windows : List (List ℕ)) (out now : List ℕ) (inside : p < size) (few : size ≤ value_room) (narrow : n + count ≤ window_room) (shaped : Shaped windows) where
   abbrev rest : List ℕ
   rest = drop n (window p (n + count) windows)
 
   pub rest_length : length rest ≡ count
-  rest_length = length-drop n (window p (n + count) windows) ∙ (let e = window_length p (n + count) windows (omega arith) narrow long in omega arith)
+  rest_length = length-drop n (window p (n + count) windows) ∙ (let e = window_length p (n + count) windows (omega arith) narrow shaped in omega arith)
 
   pub stored_checks : Stored count n count size windows out now → plane p (cut count size now) ≡ reverse rest
   stored_checks d =
@@ -40,7 +40,7 @@ module _ (n count size p : ℕ) (windows out now : List ℕ) (inside : p < size)
       at : (c : ℕ) → c < count → get_or (plane p (cut count size now)) c 0 ≡ get_or (reverse rest) c 0
       at c l =
           plane_cut count size p now c l inside ∙ d.value c p l inside
-          ∙ sym (window_at p (n + count) windows (omega arith) narrow long (n + count - 1 - c) (omega arith))
+          ∙ sym (window_at p (n + count) windows (omega arith) narrow shaped (n + count - 1 - c) (omega arith))
           ∙ sym (get_or_reverse rest c (omega (arith, rest_length)) ∙ get_or-drop n (window p (n + count) windows) (length rest - 1 - c) 0
           ∙ ap (λ (k : ℕ). get_or (window p (n + count) windows) k 0) (let e : n + (length rest - 1 - c) ≡ n + count - 1 - c = omega (arith, rest_length) in e))
 
@@ -61,17 +61,17 @@ past_columns (x ∷ xs) (y ∷ ys) = past_columns xs ys
 
 -- columns taken in by the feedback and the rest stored are the checks of a plane
 pub encoded :
-    (s : Settings) (p : ℕ) (vector hs windows out now : List ℕ) → settings_refusal s ≡ 0 → p < value_size s → value_size s ≤ value_room →
+    (s : Settings) (p : ℕ) (vector hs : List ℕ) (windows : List (List ℕ)) (out now : List ℕ) → settings_refusal s ≡ 0 → p < value_size s → value_size s ≤ value_room →
     s.n + check_count s ≤ window_room → length vector ≡ s.n * value_size s → Bytes vector → length hs ≡ check_count s →
     ((j : ℕ) → j < check_count s → get_or hs j 0 ≡ times (get_or (generator (check_count s)) (j + 1) 0) (inverse (get_or (generator (check_count s)) 0 0))) →
     Divided s.n s.n (value_size s) (s.n + check_count s) hs vector windows →
     Stored (check_count s) s.n (check_count s) (value_size s) windows out now →
     is_codeword s (plane p (cut s.n (value_size s) vector)) (plane p (cut (check_count s) (value_size s) now)) ≡ true
 encoded s p vector hs windows out now q h few narrow l b e feed v w =
-    ap (is_codeword s bytes) (stored_checks n count size p windows out now h few narrow v.long w)
-    ∙ divided_codeword s bytes (rest n count size p windows out now h few narrow v.long) q (plane_cut_length p n size vector)
-    (plane_bytes p size _ (cut_values n size vector (omega arith) b)) (rest_length n count size p windows out now h few narrow v.long)
-    (bytes_drop n _ (window_bytes p (n + count) windows v.bytes_in))
+    ap (is_codeword s bytes) (stored_checks n count size p windows out now h few narrow v.shaped w)
+    ∙ divided_codeword s bytes (rest n count size p windows out now h few narrow v.shaped) q (plane_cut_length p n size vector)
+    (plane_bytes p size _ (cut_values n size vector (omega arith) b)) (rest_length n count size p windows out now h few narrow v.shaped)
+    (bytes_drop n _ (window_bytes p (n + count) windows (omega arith) narrow v.shaped))
     (λ i k.
     ap (λ (ps : List ℕ). times (power (root i) n) (eval ps (root i))) (sym left_over)
     ∙ v.value p (root i) h (root_lt i) (feedback_root count i hs k e feed))
@@ -95,7 +95,7 @@ encoded s p vector hs windows out now q h few narrow l b e feed v w =
 
 -- the whole vector: every plane has its checks, and they stand in front of the output
 pub checks_put :
-    (n t w : ℕ) (vector feedback windows out now : List ℕ) → settings_refusal (settings n t w) ≡ 0 → length vector ≡ n * w → Bytes vector →
+    (n t w : ℕ) (vector feedback : List ℕ) (windows : List (List ℕ)) (out now : List ℕ) → settings_refusal (settings n t w) ≡ 0 → length vector ≡ n * w → Bytes vector →
     FeedbackOf (2 * t) (generator (2 * t)) feedback → Divided n n w (n + 2 * t) (take (2 * t) feedback) vector windows → Stored (2 * t) n (2 * t) w windows out now →
     2 * t * w ≤ length out → Bytes now → ChecksPut (settings n t w) vector out now
 unfolding ChecksPut settings values_in check_count value_size

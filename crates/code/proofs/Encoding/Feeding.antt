@@ -1,30 +1,17 @@
 -- A step of the registers, by the tables of the feedback's rows: row after row is added behind the byte that is taken out, in one plane's
 -- window, and plane after plane. Assumes nothing.
 use mathlib.Core.Path.{◌≡◌, refl, ◌∙◌, ap, ap₂, subst}
-use mathlib.Core.List.{List}
-use mathlib.Core.Logic.{inl, inr}
-use Prim.Native.Nat.{ℕ, ◌+◌, ◌*◌, ◌-◌, ◌≤◌, ◌<◌}
+use mathlib.Core.List.{List, []}
+use Prim.Native.Nat.{ℕ, ◌+◌, ◌*◌, ◌-◌, ◌<◌}
 use native.Mathlib.Omega.{arith}
-use native.Mathlib.Decide.{dec_lt}
-use lib.ListN.{get_or}
+use native.Mathlib.Decide.{ℕ_discrete, dec_lt}
+use lib.ListN.{length, get_or, set, length-set}
+use lib.Seq.{get_or-set_same, get_or-set_other}
 use Rattle.arrays.specs.Array.{Written}
 use Rattle.field.specs.Field.{plus, times}
 use Rattle.lanes.specs.Lanes.{row_width, in_row}
-use Rattle.code.specs.Size.{feedback_rows, window_room}
-use Rattle.code.specs.Steps.Windows.{OneOrAll, RowsAdded, in_window, Fed}
-
--- one row, or all
-pub some_row : (rows : ℕ) → OneOrAll rows → 1 ≤ rows
-some_row rows (inl e) = omega arith
-some_row rows (inr e) = omega arith
-
-pub few_rows : (rows : ℕ) → OneOrAll rows → rows ≤ feedback_rows
-few_rows rows (inl e) = omega arith
-few_rows rows (inr e) = omega arith
-
-pub all_rows : (rows : ℕ) → OneOrAll rows → (rows ≡ 1 → ⊥) → rows ≡ feedback_rows
-all_rows rows (inl e) n = absurd (n e)
-all_rows rows (inr e) n = e
+use Rattle.code.specs.Size.{value_room, window_room}
+use Rattle.code.specs.Steps.Windows.{RowsAdded, Shaped, byte_in, Fed}
 
 -- row after row
 pub rows_none : (at out : ℕ) (feedback bytes : List ℕ) → RowsAdded at 0 out feedback bytes bytes
@@ -55,49 +42,42 @@ pub rows_to :
 rows_to at k rows out feedback bytes now e w = subst (λ (i : ℕ). RowsAdded at i out feedback bytes now) e w
 
 -- plane after plane
-pub fed_none : (rows s : ℕ) (feedback value bytes : List ℕ) → Fed 0 rows s feedback value bytes bytes
-fed_none rows s feedback value bytes =
-    record {
-      long = refl;
-      fed = λ p j h l. absurd (omega arith);
-      before = λ p i h l. absurd (omega arith);
-      after = λ p i h l g. absurd (omega arith);
-      other = λ i h. refl;
-    }
+pub fed_none : (rows s : ℕ) (feedback value : List ℕ) (windows : List (List ℕ)) → Fed 0 rows s feedback value windows windows
+fed_none rows s feedback value windows = record { fed = λ p h. absurd (omega arith); other = λ p h. refl }
 
-pub fed_more :
-    (q rows s : ℕ) (feedback value bytes middle now : List ℕ) → s + 1 + row_width * rows ≤ window_room → Fed q rows s feedback value bytes middle →
-    RowsAdded (in_window q s + 1) rows (plus (get_or value q 0) (get_or middle (in_window q s) 0)) feedback middle now →
-    Fed (q + 1) rows s feedback value bytes now
-fed_more q rows s feedback value bytes middle now room w v =
-    record {
-      long = v.long ∙ w.long;
-      fed = λ p j h l. fed_at p j h l (dec_lt p q);
-      before = λ p i h l. before_at p i h l (dec_lt p q);
-      after = λ p i h l g. after_at p i h l g (dec_lt p q);
-      other = λ i h. v.after i (omega arith) ∙ w.other i (omega arith);
-    }
-  where
-    fed_at :
-        (p j : ℕ) → p < q + 1 → j < row_width * rows → Dec (p < q) →
-        get_or now (in_window p (s + 1 + j)) 0 ≡ plus (get_or bytes (in_window p (s + 1 + j)) 0) (times (get_or feedback j 0) (plus (get_or value p 0) (get_or bytes (in_window p s) 0)))
-    fed_at p j h l (yes a) = v.before _ (omega arith) ∙ w.fed p j a l
-    fed_at p j h l (no a) =
-        let e : p ≡ q = omega arith in
-        rw e
-        (ap (λ (i : ℕ). get_or now i 0) (let g : in_window q (s + 1 + j) ≡ in_window q s + 1 + j = omega arith in g) ∙ v.new j l
-        ∙ ap₂ (λ (x y : ℕ). plus x (times (get_or feedback j 0) (plus (get_or value q 0) y)))
-        (ap (λ (i : ℕ). get_or middle i 0) (let g : in_window q s + 1 + j ≡ in_window q (s + 1 + j) = omega arith in g) ∙ w.other (in_window q (s + 1 + j)) (omega arith))
-        (w.other (in_window q s) (omega arith)))
+-- a window that a call has written
+module _ (q : ℕ) (middle : List (List ℕ)) (now : List ℕ) (shaped : Shaped middle) (inside : q < value_room) where
+  pub shaped_more : length now ≡ window_room → ((i : ℕ) → get_or now i 0 < 256) → Shaped (set middle q now)
+  shaped_more e b =
+      record {
+        long = length-set middle q now ∙ shaped.long;
+        each = λ p h. long_at p h (ℕ_discrete p q);
+        bytes = λ p i h. byte p i h (ℕ_discrete p q);
+      }
+    where
+      long_at : (p : ℕ) → p < value_room → Dec (p ≡ q) → length (get_or (set middle q now) p []) ≡ window_room
+      long_at p h (yes a) = rw (a, get_or-set_same middle q now [] (omega (arith, shaped.long))) e
+      long_at p h (no n) = rw (get_or-set_other middle q p now [] n) (shaped.each p h)
 
-    before_at : (p i : ℕ) → p < q + 1 → i < s + 1 → Dec (p < q) → get_or now (in_window p i) 0 ≡ get_or bytes (in_window p i) 0
-    before_at p i h l (yes a) = v.before _ (omega arith) ∙ w.before p i a l
-    before_at p i h l (no a) = let e : p ≡ q = omega arith in rw e (v.before (in_window q i) (omega arith) ∙ w.other (in_window q i) (omega arith))
+      byte : (p i : ℕ) → p < value_room → Dec (p ≡ q) → get_or (get_or (set middle q now) p []) i 0 < 256
+      byte p i h (yes a) = rw (a, get_or-set_same middle q now [] (omega (arith, shaped.long))) (b i)
+      byte p i h (no n) = rw (get_or-set_other middle q p now [] n) (shaped.bytes p i h)
 
-    after_at :
-        (p i : ℕ) → p < q + 1 → s + 1 + row_width * rows ≤ i → i < window_room → Dec (p < q) → get_or now (in_window p i) 0 ≡ get_or bytes (in_window p i) 0
-    after_at p i h l g (yes a) = v.before _ (omega arith) ∙ w.after p i a l g
-    after_at p i h l g (no a) = let e : p ≡ q = omega arith in rw e (v.after (in_window q i) (omega arith) ∙ w.other (in_window q i) (omega arith))
+  pub fed_more :
+      (rows s : ℕ) (feedback value : List ℕ) (windows : List (List ℕ)) → Fed q rows s feedback value windows middle →
+      RowsAdded (s + 1) rows (plus (get_or value q 0) (byte_in q s middle)) feedback (get_or middle q []) now →
+      Fed (q + 1) rows s feedback value windows (set middle q now)
+  fed_more rows s feedback value windows w v =
+      record { fed = λ p h. go p h (ℕ_discrete p q); other = λ p h. get_or-set_other middle q p now [] (omega arith) ∙ w.other p (omega arith) }
+    where
+      go : (p : ℕ) → p < q + 1 → Dec (p ≡ q) →
+          RowsAdded (s + 1) rows (plus (get_or value p 0) (byte_in p s windows)) feedback (get_or windows p []) (get_or (set middle q now) p [])
+      go p h (yes a) =
+          rw (a, get_or-set_same middle q now [] (omega (arith, shaped.long)))
+          (subst (λ (old : List ℕ). RowsAdded (s + 1) rows (plus (get_or value q 0) (get_or old s 0)) feedback old now) (w.other q (omega arith)) v)
+      go p h (no n) = rw (get_or-set_other middle q p now [] n) (w.fed p (omega arith))
 
-pub fed_to : {p planes rows s : ℕ} {feedback value bytes now : List ℕ} → p ≡ planes → Fed p rows s feedback value bytes now → Fed planes rows s feedback value bytes now
-fed_to {p} {planes} {rows} {s} {feedback} {value} {bytes} {now} e w = subst (λ (i : ℕ). Fed i rows s feedback value bytes now) e w
+pub fed_to :
+    {p planes rows s : ℕ} {feedback value : List ℕ} {windows now : List (List ℕ)} → p ≡ planes → Fed p rows s feedback value windows now →
+    Fed planes rows s feedback value windows now
+fed_to {p} {planes} {rows} {s} {feedback} {value} {windows} {now} e w = subst (λ (i : ℕ). Fed i rows s feedback value windows now) e w

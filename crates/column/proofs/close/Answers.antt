@@ -1,21 +1,59 @@
--- `close` meets its contract: refused, the record is as before; else it is closed. Assumes nothing.
-use mathlib.Core.Path.{◌≡◌, sym, ◌∙◌}
+-- `close` meets its contract: refused, the record is as before; else what was found, the early frames in the slots, and one round on.
+-- Assumes nothing.
+use mathlib.Core.Path.{◌≡◌, refl, sym, ◌∙◌, ap, subst}
+use mathlib.Core.List.{List}
+use Prim.Native.Nat.{◌+◌}
+use native.Mathlib.Omega.{arith}
+use Rattle.std.proofs.lemmas.Result.{err_from_is_err_and}
+use Rattle.refusal.proofs.Positive.{number-positive}
 use Rattle.record.specs.Refusal.{close_refusal}
+use Rattle.column.specs.Call.{closing, Leads}
 use Rattle.record.specs.View.{view}
-use Rattle.column.proofs.Step.{refused_says}
+use Rattle.record.specs.Stored.{found_now, one_on}
+use Rattle.record.specs.declared.Slot.{Slot}
+use Rattle.record.specs.declared.Findings.{Findings}
+use Rattle.record.specs.declared.Column.{Column}
+use Rattle.record.proofs.Refusal.{close_round}
+use Rattle.column.proofs.Step.{refused_says, leads_closing}
 use Rattle.column.proofs.close.Goals as goal
-use Rattle.column.proofs.close.Goals.{After-close_refusal-answer}
+use Rattle.column.proofs.close.Goals.{In_ok-settings}
 
--- the lines of closing
-answer : (c : After-close_refusal-answer) → c.close_refusal-answer.result ≡ close_refusal (view c.args.column)
-unfolding close_refusal view
-answer c = c.close_refusal-answer.ensures
+pub returns-in_err-settings : goal.returns-in_err-settings
+unfolding view close_refusal
+returns-in_err-settings c =
+    let p = err_from_is_err_and c.from_residual.result c.from_residual.ensures.1 in
+    rw (p.1, p.2) (refused_says _ _ c.in_err-settings.ensures.answer (λ z. omega (arith, number-positive c.in_err-settings.field-0.0)))
 
-pub returns-then-answer-ne0 : goal.returns-then-answer-ne0
-returns-then-answer-ne0 c = refused_says _ _ (answer (goal.at.returns-then-answer-ne0 c).After-close_refusal-answer) c.if-answer-ne0.true
+passed : (c : In_ok-settings) → close_refusal (view c.args.column.now) ≡ 0
+unfolding view close_refusal
+passed c = sym c.in_ok-settings.ensures.answer
 
-pub closed-next-requires : goal.closed-next-requires
-closed-next-requires c = sym (answer (goal.at.closed-next-requires c).After-close_refusal-answer) ∙ c.if-answer-ne0.false
+pub found_after-found-requires : goal.found_after-found-requires
+found_after-found-requires c = (passed (goal.at.found_after-found-requires c).In_ok-settings, c.in_ok-settings.ensures.same)
+
+pub overflow_add-column : goal.overflow_add-column
+unfolding view
+overflow_add-column c = omega (arith, close_round (view c.args.column.now) (passed (goal.at.overflow_add-column c).In_ok-settings))
+
+-- a column one round on, the room for early frames as it is made
+abbrev with_room : Column → Findings → List Slot → Column
+with_room c f slots = record { who = c.who; slots = c.early; early = slots; found = f; round = c.round + 1; refused = c.refused }
 
 pub returns : goal.returns
-returns c = c.closed-next.ensures
+unfolding view one_on
+returns c =
+    let a = c.args.column.now in
+    let f = c.found_after-found.result in
+    let finds = c.found_after-found.ensures in
+    let zero = passed (goal.at.returns c).In_ok-settings in
+    let now : with_room a f c.no_slots-none.result ≡ one_on a f = ap (with_room a f) c.no_slots-none.ensures in
+    record {
+      answered = sym zero;
+      reads =
+          subst (λ (q : Column). Leads closing (view a) (view q)) (sym now)
+          (leads_closing a.round (view a) (view (one_on a f)) zero refl finds.reads);
+      done =
+          λ z.
+          now ∙ ap (one_on a) finds.bytes ∙ ap (λ (q : Column). one_on a (found_now a.round a.found (view q).found)) (sym now);
+      refused = λ z. absurd (z refl);
+    }

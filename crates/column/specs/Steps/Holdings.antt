@@ -3,14 +3,13 @@ use Rattle.std.specs.Prelude.{◌≡◌, ℕ, take}
 use Rattle.arrays.specs.Array.{padded}
 use Rattle.code.specs.Size.{most_columns, vector_room}
 use Rattle.record.specs.declared.Findings.{Findings}
-use Rattle.record.specs.declared.Holdings.{Holdings}
+use Rattle.column.specs.declared.holdings.Verdict.{Verdict}
 
 -- so many bytes of the values, and so many of each list, zeros behind them
-unfoldable pub Fronts : (answer : ℕ) → Findings → (size many : ℕ) → Holdings → Type 0
-Fronts a f size many h =
-    h
+unfoldable pub Fronts : Findings → (size many : ℕ) → Verdict → Type 0
+Fronts f size many v =
+    v
     ≡ record {
-      answer = a;
       values = padded vector_room (take size f.values);
       confidences = padded most_columns (take many f.confidences);
       told_two = padded most_columns (take many f.told_two);

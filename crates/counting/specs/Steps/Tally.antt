@@ -1,12 +1,14 @@
--- Values counted in all columns at once, a byte for a column in each array: what is kept of a column while the rows are gone through,
--- and when it is settled. Assumes nothing: these are definitions.
-use Rattle.std.specs.Prelude.{◌≡◌, cond, ◌&&◌, List, ℕ, ◌+◌, ◌*◌, ◌≤◌, ◌<◌, leb, eqb, length, get_or, drop, replicate}
+-- Values counted in all columns at once: what is kept of a column while the rows are gone through, and when it is settled. Assumes
+-- nothing: these are definitions.
+use Rattle.std.specs.Prelude.{◌≡◌, true, false, cond, ◌&&◌, List, ℕ, ◌+◌, ◌*◌, ◌≤◌, ◌<◌, leb, eqb, length, get_or, drop, replicate}
 use Rattle.code.specs.Settings.{settings}
 use Rattle.code.specs.Size.{most_columns}
 use Rattle.code.specs.Vector.{same}
 use Rattle.grading.specs.Value.{Value, Rows, is_blank}
 use Rattle.grading.specs.Count.{found, most, most_from}
 use Rattle.counting.specs.Steps.Table.{Planes, value_in, rows_in}
+use Rattle.counting.specs.declared.leaders.Counted.{Counted}
+use Rattle.counting.specs.declared.leaders.Standing.{Standing}
 
 -- marks of columns after one more plane of two rows: a mark stays 0 where the rows have the same byte
 pub record Marked (a b marks marks_now : List ℕ) : Type 0 where
@@ -51,21 +53,27 @@ pub record Settled (n w least : ℕ) (x : Planes) (k row times : ℕ) : Type 0 w
   pub count : least ≤ times → times ≡ counted k (best_in n w x k) (rows_in n w x)
   pub seldom : times < least → counted k (best_in n w x k) (rows_in n w x) < least
 
--- a column after c rows, settled or live
-pub record Weighed (n w least c : ℕ) (x : Planes) (k row times live : ℕ) : Type 0 where
-  pub going : (live ≡ 0 → ⊥) → Live n w c x k row times
-  pub settled : live ≡ 0 → Settled n w least x k row times
+-- a column before any row: no value leads it
+abbrev pub unweighed : Standing
+unweighed = record { leads = record { row = 0; times = 0 }; settled = false }
 
--- all n columns, a byte of each array for a column
-pub record AllWeighed (n w least c : ℕ) (x : Planes) (rows times live : List ℕ) : Type 0 where
-  pub long_rows : length rows ≡ most_columns
-  pub long_times : length times ≡ most_columns
-  pub long_live : length live ≡ most_columns
-  pub each : (k : ℕ) → k < n → Weighed n w least c x k (get_or rows k 0) (get_or times k 0) (get_or live k 0)
+-- a column after c rows, settled or live
+pub record Weighed (n w least c : ℕ) (x : Planes) (k : ℕ) (s : Standing) : Type 0 where
+  pub going : s.settled ≡ false → Live n w c x k s.leads.row s.leads.times
+  pub stays : s.settled ≡ true → Settled n w least x k s.leads.row s.leads.times
+
+-- all n columns
+abbrev pub AllWeighed : (n w least c : ℕ) → Planes → List Standing → Type 0
+AllWeighed n w least c x standings = (k : ℕ) → k < n → Weighed n w least c x k (get_or standings k unweighed)
 
 -- all n of them are settled
-abbrev pub AllSettled : (n w least : ℕ) → Planes → (rows times : List ℕ) → Type 0
-AllSettled n w least x rows times = (k : ℕ) → k < n → Settled n w least x k (get_or rows k 0) (get_or times k 0)
+abbrev pub AllSettled : (n w least : ℕ) → Planes → List Standing → Type 0
+AllSettled n w least x standings =
+    (k : ℕ) → k < n → let v = (get_or standings k unweighed).leads in Settled n w least x k v.row v.times
+
+-- the value that leads a column, blank where it is found fewer than `least` times
+unfoldable pub value_from : (w least : ℕ) → Planes → (k : ℕ) → Counted → Value
+value_from w least x k v = cond (leb least v.times) (value_in w x v.row k) (replicate w 0)
 
 -- the confidence in a value that is found so often
 unfoldable pub confidence_by : (t times : ℕ) → ℕ

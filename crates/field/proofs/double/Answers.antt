@@ -11,9 +11,9 @@ pub returns-then-a-lt128 : goal.returns-then-a-lt128
 unfolding doubled
 returns-then-a-lt128 c = simp (lt-ltb _ _ c.if-a-lt128.true)
 
-pub returns : goal.returns
+pub returns-else-a-lt128 : goal.returns-else-a-lt128
 unfolding doubled
-returns c =
+returns-else-a-lt128 c =
     let a = c.args.a in
     simp (le-ltb _ _ c.if-a-lt128.false)
     (bitXor_plus (2 * (a - 128)) 135 (omega arith) (omega arith)

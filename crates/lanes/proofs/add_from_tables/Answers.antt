@@ -3,8 +3,5 @@ use native.Mathlib.Omega.{arith}
 use Rattle.lanes.proofs.Tables.{halves_added}
 use Rattle.lanes.proofs.add_from_tables.Goals as goal
 
-pub add_both-requires : goal.add_both-requires
-add_both-requires c = (omega arith, omega arith, omega arith)
-
 pub returns : goal.returns
-returns c = λ f byte tables. halves_added _ _ _ f _ _ _ (omega arith) byte tables c.add_both.ensures
+returns c = λ f byte tables. rw c.from-c.ensures at (halves_added _ _ _ f _ _ _ (omega arith) byte tables c.add_both.ensures)

@@ -1,5 +1,5 @@
 use mathlib.Core.Path.{◌≡◌}
-use Prim.Native.Nat.{ℕ, ◌-◌, ◌≤◌}
+use Prim.Native.Nat.{ℕ}
 use lib.ListN.{length}
 use Rattle.lanes.specs.Lanes.{Doublings}
 use Rattle.lanes.proofs.Bits.{BitsLeft, with_product}
@@ -7,8 +7,5 @@ use Rattle.lanes.proofs.add_product.Given as goal
 
 abbrev pub invariant-loop-k : goal.invariant-loop-k
 invariant-loop-k l =
-    (1 ≤ l.k) × (l.k ≤ 9) × (length l.rows ≡ length l.initial.rows)
+    (length l.rows ≡ length l.initial.rows)
     × ((f : ℕ → ℕ) → Doublings 8 f l.doublings → BitsLeft l.k l.left l.at l.doublings l.initial.rows l.rows (with_product l.at l.constant f l.initial.rows))
-
-abbrev pub decreases-loop-k : goal.decreases-loop-k
-decreases-loop-k l = 9 - l.k

@@ -6,5 +6,5 @@ use Rattle.lanes.proofs.first_rows.Goals as goal
 
 pub returns : goal.returns
 returns c =
-    multiples_first _ _ _ refl refl (λ p h. (c.shared_slice_known-1.given p).fits)
+    multiples_first _ _ _ refl refl (λ p h. (c.type_inv.value p).fits)
     (from_start c.args.value.now c.copy.ensures)

@@ -1,4 +1,3 @@
-use Prim.Native.Nat.{◌-◌, ◌≤◌}
 use lib.ListN.{get_or}
 use Rattle.field.specs.Field.{doubled}
 use Rattle.arrays.specs.Array.{Written}
@@ -6,7 +5,4 @@ use Rattle.lanes.specs.Lanes.{in_row, row_width}
 use Rattle.lanes.proofs.sixteenth_rows.Given as goal
 
 abbrev pub invariant-loop-p : goal.invariant-loop-p
-invariant-loop-p l = (l.p ≤ row_width) × Written row_width l.p (λ q. doubled (get_or l.low (in_row 8 q) 0)) l.initial.rows l.rows
-
-abbrev pub decreases-loop-p : goal.decreases-loop-p
-decreases-loop-p l = row_width - l.p
+invariant-loop-p l = Written row_width l.p (λ q. doubled (get_or l.low (in_row 8 q) 0)) l.initial.rows l.rows

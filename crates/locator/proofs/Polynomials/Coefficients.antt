@@ -2,12 +2,15 @@
 -- turn of a loop that adds changes one coefficient. Assumes nothing.
 use mathlib.Core.Path.{◌≡◌, refl, sym, ◌∙◌, ap, ap₂}
 use mathlib.Core.List.{List, [], ◌∷◌, ◌++◌}
-use Prim.Native.Nat.{ℕ, zero, suc, ◌+◌, ◌<◌, ◌≤◌}
+use Prim.Native.Nat.{ℕ, zero, suc, ◌+◌, ◌-◌, ◌<◌, ◌≤◌}
 use native.Mathlib.Omega.{arith}
-use lib.ListN.{length, get_or, take, drop, set, take-append-drop}
-use Rattle.field.specs.Field.{plus, times}
+use lib.ListN.{length, get_or, take, drop, set, length-drop, take-append-drop}
+use borrow.Rule.Slice.PartMut.{put_mid}
+use lib.Seq.{take-length}
+use Rattle.field.specs.Field.{plus, times, power}
 use Rattle.field.proofs.Xor.{plus_zero}
 use Rattle.field.proofs.Times.{times_zero}
+use Rattle.field.proofs.Power.{power_lt}
 use Rattle.code.specs.Polynomial.{added, scaled}
 use Rattle.arrays.proofs.Bytes.{Bytes}
 use Rattle.code.proofs.Polynomials.Arithmetic.{length_scaled}
@@ -35,6 +38,25 @@ added_middle c (suc s) n [] q h b l k = absurd (omega arith)
 added_middle c (suc s) n (x ∷ p) q h b l k =
     ap₂ (λ (y : ℕ) (r : List ℕ). y ∷ r) (sym (ap (plus x) (times_zero c h) ∙ plus_zero x b.0))
     (added_middle c s n p q h b.1 l (omega arith))
+
+-- what is lent from a place on
+pub drop_part : (s w : ℕ) (p : List ℕ) → w ≡ length p - s → take w (drop s p) ≡ drop s p
+drop_part s w p e = ap (λ (n : ℕ). take n (drop s p)) (e ∙ sym (length-drop s p)) ∙ take-length (drop s p)
+
+-- the same of parts that were lent
+pub added_part :
+    (e to from w v : ℕ) (p q part : List ℕ) → to ≤ from → from ≤ length q → length q ≤ length p → w ≡ length p - to → v ≡ length q - from → Bytes p →
+    part ≡ added (take w (drop to p)) (scaled (power 2 e) (take v (drop from q))) → put_mid to w p part ≡ added p (scaled (power 2 e) (raised to (drop from q)))
+added_part e to from w v p q part h l k wide narrow b is =
+    ap (put_mid to w p) is
+    ∙ added_middle (power 2 e) to w p (take v (drop from q)) (power_lt 2 e) b (omega (arith, long)) (omega (arith, long))
+    ∙ ap (λ (r : List ℕ). added p (scaled (power 2 e) (raised to r))) whole
+  where
+    whole : take v (drop from q) ≡ drop from q
+    whole = drop_part from v q narrow
+
+    long : length (take v (drop from q)) ≡ length q - from
+    long = ap length whole ∙ length-drop from q
 
 -- one more coefficient added
 pub added_first : (c : ℕ) (p q : List ℕ) → p ≡ added p (scaled c (take 0 q))

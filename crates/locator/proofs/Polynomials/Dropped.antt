@@ -4,18 +4,13 @@ use mathlib.Core.Path.{◌≡◌, refl, sym, ◌∙◌, ap, ap₂}
 use mathlib.Core.List.{List, [], ◌∷◌}
 use Prim.Native.Nat.{ℕ, zero, suc, ◌-◌, ◌<◌, ◌≤◌}
 use native.Mathlib.Omega.{arith}
-use lib.ListN.{length, get_or, take, drop, length-drop}
-use lib.Seq.{take-length}
+use lib.ListN.{length, get_or, drop}
 use Rattle.field.specs.Field.{times}
 use Rattle.field.proofs.Times.{times_zero}
 use Rattle.field.proofs.Logarithm.{times_assoc}
 use Rattle.code.specs.Polynomial.{added, scaled}
 use Rattle.locator.specs.Locator.{raised}
 use Rattle.locator.proofs.Polynomials.Coefficients.{added_none}
-
--- what is lent from a place on
-pub drop_lent : (s : ℕ) (p : List ℕ) → take (length p - s) (drop s p) ≡ drop s p
-drop_lent s p = ap (λ (n : ℕ). take n (drop s p)) (sym (length-drop s p)) ∙ take-length (drop s p)
 
 pub drop_added : (n : ℕ) (p q : List ℕ) → drop n (added p q) ≡ added (drop n p) (drop n q)
 unfolding added

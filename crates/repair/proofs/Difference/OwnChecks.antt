@@ -4,19 +4,18 @@ use mathlib.Core.Path.{◌≡◌, refl, sym, ◌∙◌, ap, ap₂, subst}
 use mathlib.Core.Bool.{true}
 use mathlib.Core.List.{List, [], ◌∷◌}
 use mathlib.Mathlib.Data.Bool.Basic.{and_intro}
-use Prim.Native.Nat.{ℕ, zero, suc, ◌*◌, ◌≤◌}
+use Prim.Native.Nat.{ℕ, zero, suc, ◌*◌}
 use native.Mathlib.Omega.{arith}
 use native.Mathlib.Nat.{suc-mul}
 use lib.ListN.{length, take, drop, length-append}
 use lib.Seq.{take_at, drop_at}
 use borrow.Author.Tests.{eq-eqb}
 use Rattle.arrays.specs.Array.{in_front}
-use Rattle.code.specs.Settings.{settings, settings_refusal, check_count, value_size}
+use Rattle.code.specs.Settings.{settings, check_count, value_size}
 use Rattle.code.specs.Vector.{is_vector, are_checks, has_checks, cut, glued}
-use Rattle.code.specs.Entry.{values_in, ChecksPut, ChecksSays}
+use Rattle.code.specs.Entry.{values_in, ChecksPut}
 use Rattle.arrays.proofs.Bytes.{Bytes}
 use Rattle.code.proofs.Vectors.Cut.{cut_length, cut_values}
-use Rattle.code.proofs.Encoding.Entry.{checks_given}
 use Rattle.code.proofs.Vectors.Planes.{Values, values_back, vector_back, checked_of}
 
 glued_length : (n w : ℕ) (vs : List (List ℕ)) → length vs ≡ n → Values w vs → length (glued vs) ≡ n * w
@@ -35,15 +34,15 @@ cut_glued (suc n) w [] e v = absurd (omega arith)
 cut_glued (suc n) w (x ∷ vs) e v =
     ap₂ ◌∷◌ (take_at x (glued vs) w v.0) (ap (cut n w) (drop_at x (glued vs) w v.0) ∙ cut_glued n w vs (omega arith) v.2)
 
-module _ (n t w answer : ℕ) (vector out now : List ℕ) (allowed : settings_refusal (settings n t w) ≡ 0) (long : length vector ≡ n * w) (room : 2 * t * w ≤ length out) (says : ChecksSays n t w vector answer out now) where
-  pub own_checks : has_checks (settings n t w) (values_in (settings n t w) n vector) (values_in (settings n t w) (2 * t) (take (2 * t * w) now)) ≡ true
-  unfolding ChecksPut in_front values_in settings check_count value_size
-  own_checks =
-      let put = checks_given n t w vector out answer now allowed long room says in
-      let checked = checked_of (settings n t w) (cut n w vector) put.0 put.1 in
-      let front = take_at (glued put.0) (drop (length (glued put.0)) out) (2 * t * w) (glued_length (2 * t) w put.0 checked.many checked.values) in
-      subst (λ (cs : List (List ℕ)). has_checks (settings n t w) (cut n w vector) cs ≡ true)
-      (sym (ap (cut (2 * t) w) (ap (take (2 * t * w)) put.2 ∙ front) ∙ cut_glued (2 * t) w put.0 checked.many checked.values)) put.1
+pub own_checks :
+    (n t w : ℕ) (vector out now : List ℕ) → ChecksPut (settings n t w) vector out now →
+    has_checks (settings n t w) (values_in (settings n t w) n vector) (values_in (settings n t w) (2 * t) (take (2 * t * w) now)) ≡ true
+unfolding ChecksPut in_front values_in settings check_count value_size
+own_checks n t w vector out now put =
+    let checked = checked_of (settings n t w) (cut n w vector) put.0 put.1 in
+    let front = take_at (glued put.0) (drop (length (glued put.0)) out) (2 * t * w) (glued_length (2 * t) w put.0 checked.many checked.values) in
+    subst (λ (cs : List (List ℕ)). has_checks (settings n t w) (cut n w vector) cs ≡ true)
+    (sym (ap (cut (2 * t) w) (ap (take (2 * t * w)) put.2 ∙ front) ∙ cut_glued (2 * t) w put.0 checked.many checked.values)) put.1
 
 pub is_vector_in : (n t w : ℕ) (vector : List ℕ) → length vector ≡ n * w → Bytes vector → is_vector (settings n t w) (values_in (settings n t w) n vector) ≡ true
 unfolding settings value_size values_in

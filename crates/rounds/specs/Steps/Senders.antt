@@ -1,41 +1,29 @@
 -- The rows of a round's table as the program makes them. Assumes nothing: these are definitions.
-use Rattle.std.specs.Prelude.{◌≡◌, Bool, true, false, cond, List, [], ◌⊎◌, ℕ, ◌+◌, ◌*◌, ◌<◌, eqb, length, get_or, take}
+use Rattle.std.specs.Prelude.{◌≡◌, Bool, true, false, cond, List, ◌⊎◌, ℕ, ◌+◌, ◌*◌, ◌<◌, eqb, length, get_or, take, Option, Some, None}
 use Rattle.std.proofs.Math.Option.{some}
 use Rattle.arrays.specs.Array.{in_front}
-use Rattle.code.specs.Settings.{Settings, settings, settings_refusal, check_count, value_size}
+use Rattle.code.specs.Settings.{Settings, settings, check_count, value_size}
 use Rattle.code.specs.Size.{vector_room, checks_room}
-use Rattle.code.specs.Vector.{has_checks}
 use Rattle.code.specs.Entry.{values_in}
 use Rattle.grading.specs.Value.{Vector, blanks}
 use Rattle.counting.specs.Steps.Table.{Planes, Shaped, row_in}
-use Rattle.record.specs.Frame.{checks_in, operand_in}
+use Rattle.record.specs.Frame.{operand_in}
 use Rattle.record.specs.Record.{told_missing, told_none}
 use Rattle.repair.specs.declared.RepairAnswer.{RepairAnswer}
 use Rattle.rounds.specs.Exchange.{Row}
 use Rattle.record.specs.View.{frame_in}
+use Rattle.record.specs.Steps.Due.{slot_past}
 use Rattle.record.specs.declared.Slot.{Slot}
-use Rattle.rounds.specs.declared.senders.Coded.{Coded}
+use Rattle.rounds.specs.declared.coded.Coded.{Coded}
 use Rattle.rounds.specs.declared.senders.Last.{Last}
-
--- a coded vector by its parts
-abbrev pub coded : (n t w : ℕ) → (vector checks : List ℕ) → Coded
-coded n t w vector checks = record { n = n; t = t; w = w; vector = vector; checks = checks }
 
 -- the settings of a coded vector
 unfoldable pub coded_settings : Coded → Settings
-coded_settings c = settings c.n c.t c.w
+coded_settings c = settings c.settings.n c.settings.t c.settings.w
 
 -- the vector as values
 unfoldable pub coded_vector : Coded → Vector
-coded_vector c = values_in (coded_settings c) c.n c.vector
-
--- a vector with its check values
-pub record CodedRight (c : Coded) : Type 0 where
-  pub fine : settings_refusal (coded_settings c) ≡ 0
-  pub checked :
-      has_checks (coded_settings c) (coded_vector c)
-      (checks_in (coded_settings c) (take (check_count (coded_settings c) * value_size (coded_settings c)) c.checks))
-      ≡ true
+coded_vector c = values_in (coded_settings c) c.settings.n c.vector
 
 -- the row of a slot and what it tells: the column's own is its vector, another's the vector repaired by the checks of its frame, or blanks
 unfoldable pub SlotRow : Settings → (own : Vector) → (mine : Bool) → Slot → (row : Vector) → (told : ℕ) → Type 0
@@ -50,56 +38,44 @@ told_of a = cond (eqb a.answer 0) a.changed told_none
 abbrev pub checks_size : Settings → ℕ
 checks_size s = check_count s * value_size s
 
--- the row by the checks x: the last answer again where they are the last ones, and the array as it was; else the row in the array, and
--- what it tells
-unfoldable pub RepairedAgain : Settings → (own : Vector) → (x last_checks : List ℕ) → (last : RepairAnswer) → (again : Bool) → RepairAnswer → (row row_now : List ℕ) → Type 0
-RepairedAgain s vs x ls last true a row now = (x ≡ ls) × (a ≡ last) × (now ≡ row)
-RepairedAgain s vs x ls last false a row now = (a.changed < told_missing) × Row s vs (some x) (values_in s s.n now) (told_of a)
+-- the row by the checks x: no answer where they are the last ones, and the array as it was; else the row in the array, and what it tells
+unfoldable pub RepairedAgain : Settings → (own : Vector) → (x last_checks : List ℕ) → Option RepairAnswer → (row row_now : List ℕ) → Type 0
+RepairedAgain s vs x ls None row now = (x ≡ ls) × (now ≡ row)
+RepairedAgain s vs x ls (Some a) row now = (a.changed < told_missing) × Row s vs (some x) (values_in s s.n now) (told_of a)
 
 -- the same of a slot's frame, where the checks stand in front of an array, and its checks come there
-pub record SlotRepaired (s : Settings) (vs : Vector) (x : Slot) (ls ls_now : List ℕ) (last : RepairAnswer) (again : Bool) (a : RepairAnswer) (row row_now : List ℕ) :
-    Type 0 where
+pub record SlotRepaired (s : Settings) (vs : Vector) (x : Slot) (ls ls_now : List ℕ) (answer : Option RepairAnswer) (row row_now : List ℕ) : Type 0 where
   pub long : length ls_now ≡ length ls
   pub kept : take (checks_size s) ls_now ≡ take (checks_size s) (operand_in x.bytes)
-  pub found : RepairedAgain s vs (take (checks_size s) (operand_in x.bytes)) (take (checks_size s) ls) last again a row row_now
+  pub found : RepairedAgain s vs (take (checks_size s) (operand_in x.bytes)) (take (checks_size s) ls) answer row row_now
 
 -- row i of a table
 abbrev pub row_of : Settings → Planes → (i : ℕ) → Vector
 row_of s x i = row_in s.n (value_size s) x i
 
--- the last repair, by the checks in front of an array: its answer, and the row of the table that it gave
-pub record LastRow (s : Settings) (vs : Vector) (checks : List ℕ) (last : Last) (x : Planes) : Type 0 where
-  pub long : length checks ≡ checks_room
+-- the last repair, by the checks in front of its array: its answer, and the row of the table that it gave
+pub record LastRow (s : Settings) (vs : Vector) (last : Last) (x : Planes) : Type 0 where
+  pub long : length last.checks ≡ checks_room
   pub few : last.answer.changed < told_missing
-  pub row : Row s vs (some (take (checks_size s) checks)) (row_of s x last.at) (told_of last.answer)
+  pub row : Row s vs (some (take (checks_size s) last.checks)) (row_of s x last.at) (told_of last.answer)
 
 -- an array for a row of blanks
 pub record EmptyRow (s : Settings) (row : List ℕ) : Type 0 where
   pub long : length row ≡ vector_room
   pub blank : values_in s s.n row ≡ blanks s
 
--- a vector and its check values as they are lent
-pub record OwnLent (n t w : ℕ) (vector checks : List ℕ) : Type 0 where
-  pub right : CodedRight (coded n t w vector checks)
-  pub vector_long : length vector ≡ vector_room
-  pub checks_long : length checks ≡ checks_room
-
 -- a slot's row put into a table as row i, and what it tells: every other row is kept, and the last repair is this one, or the one before
-pub record SlotPut (s : Settings) (vs : Vector) (slot : Slot) (i : ℕ) (checks_now : List ℕ) (last last_now : Last) (row_now : List ℕ) (x x_now : Planes) : Type 0 where
+pub record SlotPut (s : Settings) (vs : Vector) (slot : Slot) (i : ℕ) (last last_now : Last) (told : ℕ) (row_now : List ℕ) (x x_now : Planes) : Type 0 where
   pub shape : Shaped x_now
-  pub here : SlotRow s vs false slot (row_of s x_now i) last_now.told
+  pub here : SlotRow s vs false slot (row_of s x_now i) told
   pub others : (j : ℕ) → (j ≡ i → ⊥) → row_of s x_now j ≡ row_of s x j
-  pub memo : LastRow s vs checks_now last_now x_now
+  pub memo : LastRow s vs last_now x_now
   pub at : (last_now.at ≡ last.at) ⊎ (last_now.at ≡ i)
   pub empty : EmptyRow s row_now
 
 -- a table whose rows are blanks
 abbrev pub BlankRows : Settings → Planes → Type 0
 BlankRows s x = (j : ℕ) → j < s.n → row_of s x j ≡ blanks s
-
--- what stands for a slot past the last
-abbrev pub slot_past : Slot
-slot_past = record { taken = 0; bytes = [] }
 
 -- a table with the rows of all slots, and what each tells
 pub record SlotRows (s : Settings) (own : Vector) (number : ℕ) (slots : List Slot) (x : Planes) (told : List ℕ) : Type 0 where

@@ -20,10 +20,6 @@ use Rattle.sums.specs.Rows.{ValuesAdded}
 use Rattle.code.proofs.Vectors.Cut.{plane_cut, plane_cut_length}
 use Rattle.lanes.proofs.Lane.{lane_is}
 
--- a value before the last ends within the list
-pub value_within : (c count size k : ℕ) → c < count → count * size ≤ k → c * size + size ≤ k
-value_within c count size k h l = omega (arith, suc-mul c size, mul-le-mul_right size h)
-
 -- row by row
 pub values_none : (size : ℕ) (own checks rows : List ℕ) → length rows ≡ check_rows → all_zero rows ≡ true → ValuesAdded 0 size own checks rows
 values_none size own checks rows e z =
@@ -51,9 +47,6 @@ values_more c size from own checks rows now h e v w =
     spare : (d p : ℕ) → size ≤ p → p < row_width → Dec (d < c) → get_or now (in_row d p) 0 ≡ 0
     spare d p g l (yes b) = w.before _ (omega arith) ∙ v.spare d p g l
     spare d p g l (no b) = w.after _ (omega arith) ∙ v.spare d p g l
-
-pub values_whole : {c count size : ℕ} {own checks rows : List ℕ} → c ≡ count → ValuesAdded c size own checks rows → ValuesAdded count size own checks rows
-values_whole {c} {count} {size} {own} {checks} {rows} e v = subst (λ (k : ℕ). ValuesAdded k size own checks rows) e v
 
 added_at : (us vs : List ℕ) (j : ℕ) → length us ≡ length vs → j < length us → get_or (added us vs) j 0 ≡ plus (get_or us j 0) (get_or vs j 0)
 unfolding added

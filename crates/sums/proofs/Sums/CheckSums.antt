@@ -60,9 +60,6 @@ check_sums_more c e count checks row sums now q s r t =
           ∙ summed_more (root i) (count - 1) e _ (lane p c checks) (omega (arith, lane_length p c checks)));
     }
 
-pub check_sums_whole : {c count : ℕ} {checks sums : List ℕ} → c ≡ count → CheckSums c count checks sums → CheckSums count count checks sums
-check_sums_whole {c} {count} {checks} {sums} e s = subst (λ (k : ℕ). CheckSums k count checks sums) e s
-
 -- what the sums are to the decoder of a plane
 pub check_sums_syndrome :
     (s : Settings) (n count : ℕ) (checks sums : List ℕ) → check_count s ≡ count → CheckSums count count checks sums → (i p : ℕ) → i < count → p < row_width →

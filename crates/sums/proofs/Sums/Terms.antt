@@ -11,6 +11,11 @@ use Rattle.field.proofs.Xor.{plus_zero}
 use Rattle.field.proofs.Times.{zero_times}
 use Rattle.lanes.specs.Lanes.{row_width, in_row, ProductsAdded}
 
+-- the first numbers of a list, read as one slice
+pub first_at :
+    (many : ℕ) (xs : List ℕ) → many ≤ length xs → (i : ℕ) → i < length (take many xs) → (i < many) × (get_or (take many xs) i 0 ≡ get_or xs i 0)
+first_at many xs h i l = let m : i < many = omega (arith, length-take-le many xs h) in (m, get_or-take many xs i 0 m)
+
 -- the constants: the first bytes of an array, read as one slice, and by another name for each
 pub filled_prefix : {f g : ℕ → ℕ} (k size : ℕ) (bytes : List ℕ) → k ≤ size → ((i : ℕ) → i < k → f i ≡ g i) → Filled size k f bytes → Filled k k g (take k bytes)
 filled_prefix k size bytes h e w =

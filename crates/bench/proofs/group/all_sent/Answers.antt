@@ -10,21 +10,18 @@ use Rattle.bench.proofs.Running.Hearing.{set_cases}
 use Rattle.bench.proofs.group.all_sent.Goals as goal
 
 pub loop-number-init : goal.loop-number-init
-loop-number-init c = (omega arith, omega arith, c.requires, refl, λ k low less. absurd (omega arith))
+loop-number-init c = (refl, λ k low less. absurd (omega arith))
 
 pub loop-number-preserved : goal.loop-number-preserved
 unfolding record_of frame_at
 loop-number-preserved c =
     let l = c.loop-number in
-    let columns = c.args.columns in (
-      omega arith,
-      omega arith,
-      l.invariant.2,
-      simp length-set l.invariant.3,
+    let columns = c.args.columns.now in (
+      simp length-set l.invariant.0,
       λ k low less.
           set_cases l.frames frame_past c.sent.result l.number k
-          (λ (i : ℕ) (x : Frame). Sends (record_of columns i) x) l.invariant.0 (omega arith) low less c.sent.ensures (λ before. l.invariant.4 k low before),
+          (λ (i : ℕ) (x : Frame). Sends (record_of columns i) x) (omega arith) (omega arith) low less c.sent.ensures (λ before. l.invariant.1 k low before),
     )
 
 pub returns : goal.returns
-returns c k low high = c.loop-number.invariant.4 k low (omega arith)
+returns c k low high = c.loop-number.invariant.1 k low (omega arith)

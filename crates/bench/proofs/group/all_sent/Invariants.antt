@@ -1,5 +1,5 @@
 use mathlib.Core.Path.{◌≡◌}
-use Prim.Native.Nat.{ℕ, ◌+◌, ◌-◌, ◌≤◌, ◌<◌}
+use Prim.Native.Nat.{ℕ, ◌≤◌, ◌<◌}
 use lib.ListN.{length}
 use Rattle.code.specs.Size.{most_columns}
 use Rattle.bench.specs.Steps.Finished.{record_of}
@@ -8,8 +8,4 @@ use Rattle.bench.proofs.group.all_sent.Given as goal
 
 abbrev pub invariant-loop-number : goal.invariant-loop-number
 invariant-loop-number l =
-    (1 ≤ l.number) × (l.number ≤ l.n + 1) × (l.n ≤ most_columns) × (length l.frames ≡ most_columns)
-    × ((k : ℕ) → 1 ≤ k → k < l.number → Sends (record_of l.columns k) (frame_at l.frames k))
-
-abbrev pub decreases-loop-number : goal.decreases-loop-number
-decreases-loop-number l = l.n + 1 - l.number
+    (length l.frames ≡ most_columns) × ((k : ℕ) → 1 ≤ k → k < l.number → Sends (record_of l.columns k) (frame_at l.frames k))

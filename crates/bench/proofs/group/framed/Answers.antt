@@ -1,20 +1,26 @@
 -- `framed` meets its contract: the header, and the operand behind it. Assumes nothing.
-use mathlib.Core.Path.{◌≡◌, sym, ◌∙◌, ap}
-use mathlib.Core.List.{◌++◌}
+use mathlib.Core.Path.{◌≡◌, refl, sym, ◌∙◌, ap}
+use mathlib.Core.List.{List, ◌++◌, append_assoc}
 use Prim.Native.Nat.{ℕ, ◌+◌}
 use native.Mathlib.Omega.{arith}
-use lib.ListN.{length, take}
-use Rattle.record.specs.Frame.{command, header_size, header}
+use lib.ListN.{length, take, length-append}
+use lib.Seq.{take_at}
+use Rattle.arrays.specs.Array.{in_front}
+use Rattle.arrays.proofs.Front.{written_between}
+use Rattle.arrays.proofs.Written.{from_start}
+use Rattle.record.specs.Frame.{command, header}
 use Rattle.bench.specs.Group.{bench_run}
-use Rattle.bench.proofs.Listing.Text.{put_front, puts, put_taken}
 use Rattle.bench.proofs.group.framed.Goals as goal
 
+both_read : (head operand rest new : List ℕ) → length head ≡ 4 → new ≡ head ++ (operand ++ rest) → take (4 + length operand) new ≡ head ++ operand
+both_read head operand rest new e h =
+    ap (take (4 + length operand)) (h ∙ sym (append_assoc head operand rest))
+    ∙ take_at (head ++ operand) rest (4 + length operand) (length-append head operand ∙ ap (λ (k : ℕ). k + length operand) e)
+
 pub returns : goal.returns
-unfolding header command bench_run
+unfolding header command bench_run in_front
 returns c =
     let a = c.args in
-    let head = header a.round a.from bench_run in
-    let whole : header_size + length a.operand.now ≡ length (head ++ a.operand.now) = omega arith in
-    let first = c.put_header.ensures ∙ sym (put_front head _) in
-    ap (λ (k : ℕ). take k c.put_bytes.new.output) whole
-    ∙ put_taken (puts (omega arith) (record { behind = omega arith; bytes = first }) c.put_bytes.ensures)
+    let operand = a.operand.now in
+    let written = written_between 4 (length operand) operand _ _ refl (omega arith) (from_start operand c.copy.ensures) in
+    both_read (header a.round a.from 0) operand _ _ refl (rw c.put_header.ensures at written)

@@ -1,6 +1,6 @@
 use mathlib.Core.Path.{◌≡◌}
 use mathlib.Core.Option.{some}
-use Prim.Native.Nat.{ℕ, ◌+◌, ◌-◌, ◌≤◌, ◌<◌}
+use Prim.Native.Nat.{ℕ, ◌<◌}
 use lib.ListN.{length}
 use Rattle.code.specs.Size.{most_columns}
 use Rattle.grading.specs.Value.{Value}
@@ -13,9 +13,6 @@ use Rattle.bench.proofs.group.opened.Given as goal
 
 abbrev pub invariant-loop-number : goal.invariant-loop-number
 invariant-loop-number l =
-    (1 ≤ l.number) × (l.number ≤ l.places.n + 1) × (l.places.n ≤ most_columns) × (length l.columns ≡ most_columns)
+    (length l.columns ≡ most_columns)
     × ((f : Scenario) (k : ℕ) (v : Value) →
     Located l.file l.places f → k < l.number → own_of f.owns k ≡ some v → record_of l.columns k ≡ opened f.settings k bench_run v)
-
-abbrev pub decreases-loop-number : goal.decreases-loop-number
-decreases-loop-number l = l.places.n + 1 - l.number

@@ -14,6 +14,6 @@ unfolding Sends frame_bytes FrameOf view who_in who_as
 returns c h =
     let says = c.send.ensures in
     let wrote = says.done (says.answered ∙ h) in
-    let column = c.args.column in
+    let column = c.args.column.now in
     let kept = ap (take (frame_size (settings_of column.who) column.round)) wrote.2 ∙ front_value wrote.0 _ _ wrote.1.1 in
     rw kept wrote.1

@@ -1,34 +1,50 @@
 -- `put_column` meets its contract: the line of what the result answers, or nothing. Assumes nothing.
-use mathlib.Core.Path.{sym, ◌∙◌, ap}
+use mathlib.Core.Path.{refl, sym, ◌∙◌, ap}
+use mathlib.Core.List.{◌++◌, append-nil}
+use Prim.Native.Nat.{ℕ}
 use native.Mathlib.Omega.{arith}
+use lib.ListN.{length, length-append}
 use Rattle.code.specs.Settings.{Settings}
 use Rattle.grading.specs.Held.{held_in}
+use Rattle.record.specs.Stored.{no_holdings}
+use Rattle.refusal.proofs.Positive.{number-positive}
+use Rattle.bench_file.specs.Steps.Places.{group_of}
 use Rattle.bench.specs.Listing.{column_line}
-use Rattle.bench.proofs.Listing.Text.{put_nothing, put_alike}
-use Rattle.bench.proofs.Listing.Wording.{line_short, held_alike}
+use Rattle.bench_file.proofs.OneCommand.Faults.{small_settings}
+use Rattle.bench.proofs.Listing.Wording.{line_short}
 use Rattle.bench.proofs.lines.put_column.Goals as goal
 
-pub returns-then-not-is_good : goal.returns-then-not-is_good
-returns-then-not-is_good c = record {
-  by_index = (λ file f h finished. rw (sym (c.is_good.ensures file f h) ∙ c.if-not-is_good.true) (put_nothing _ _));
-  within = omega arith;
-}
+pub returns-then-not-is_good-clause-by_index : goal.returns-then-not-is_good-clause-by_index
+returns-then-not-is_good-clause-by_index c file f h finished =
+    rw (sym (c.is_good.ensures file f h) ∙ c.if-not-is_good.true) (sym (append-nil _))
 
 pub put_line-requires : goal.put_line-requires
 put_line-requires c =
-    let r = c.result-result.result in
-    omega
-    (arith, c.requires, line_short c.args.number c.args.places.n c.args.places.w r.values r.confidences (omega (arith, c.requires)) c.requires.2 c.requires.3)
+    let s = c.args.places.now.settings in
+    let small = small_settings s in
+    let v = c.in-Ok.verdict in
+    omega (arith, c.requires, line_short c.args.number (group_of s) v.values v.confidences (omega (arith, c.requires)) small.0 small.2)
 
-pub returns : goal.returns
-returns c =
+pub returns-in-Ok-clause-by_index : goal.returns-in-Ok-clause-by_index
+returns-in-Ok-clause-by_index c file f h finished =
     let a = c.args in
-    let r = c.result-result in record {
-      by_index = (λ file f h finished.
-          let good = sym (c.is_good.ensures file f h) ∙ c.if-not-is_good.false in
-          let done = finished good in
-          let same = done.settings ∙ h.settings in
-          let held = ap (λ (x : Settings). held_in x r.result.values r.result.confidences) (sym same) ∙ (r.ensures.done (r.ensures.answered ∙ done.answered)).reads in
-          rw good (put_alike (ap (column_line a.number) (sym (held_alike a.places.n a.places.t a.places.w _ _) ∙ held)) c.put_line.ensures));
-      within = omega (arith, c.put_line.ensures.behind, line_short a.number a.places.n a.places.w r.result.values r.result.confidences (omega (arith, c.requires)) c.requires.2 c.requires.3);
-    }
+    let v = c.in-Ok.verdict in
+    let good = sym (c.is_good.ensures file f h) ∙ c.if-not-is_good.false in
+    let done = finished good in
+    let same = done.settings ∙ h.settings in
+    let held = ap (λ (x : Settings). held_in x v.values v.confidences) (sym same) ∙ (c.in-Ok.ensures.done refl).reads in
+    rw good (c.put_line.ensures ∙ ap (λ hs. a.text.now ++ column_line a.number hs) held)
+
+pub returns-in-Ok-clause-within : goal.returns-in-Ok-clause-within
+returns-in-Ok-clause-within c =
+    let s = c.args.places.now.settings in
+    let small = small_settings s in
+    let v = c.in-Ok.verdict in
+    omega
+    (arith, length-append {A = ℕ}, ap length c.put_line.ensures, line_short c.args.number (group_of s) v.values v.confidences (omega (arith, c.requires)) small.0 small.2)
+
+pub returns-in_default-clause-by_index : goal.returns-in_default-clause-by_index
+unfolding no_holdings
+returns-in_default-clause-by_index c file f h finished =
+    let good = sym (c.is_good.ensures file f h) ∙ c.if-not-is_good.false in
+    absurd (omega (arith, (finished good).answered, c.in_default.ensures.answered, number-positive c.in_default.field-0))

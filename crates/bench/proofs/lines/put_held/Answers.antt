@@ -1,25 +1,23 @@
 -- `put_held` meets its contract: the space, the value, the slash and the confidence. Assumes nothing.
-use mathlib.Core.List.{◌∷◌}
+use mathlib.Core.Path.{ap}
+use mathlib.Core.List.{append_assoc}
+use Prim.Native.Nat.{ℕ}
 use native.Mathlib.Omega.{arith}
-use lib.ListN.{length-append}
+use lib.ListN.{length, length-append}
 use Rattle.grading.specs.Held.{held_as}
-use Rattle.bench.specs.Listing.{value_text, decimal, held_text}
-use Rattle.bench.proofs.Listing.Text.{puts}
+use Rattle.bench.specs.Listing.{held_text}
 use Rattle.bench.proofs.lines.put_held.Goals as goal
 
-pub put_value-slash-requires : goal.put_value-slash-requires
+pub put_value-requires : goal.put_value-requires
 unfolding held_text held_as
-put_value-slash-requires c =
-    omega (arith, c.requires, c.put_byte-start.ensures.behind, c.put_byte-start.auto.output, length-append (value_text c.args.value.now) (47 ∷ decimal c.args.confidence))
+put_value-requires c = omega (arith, c.requires, length-append {A = ℕ}, ap length c.put_byte.ensures)
 
 pub put_marked-requires : goal.put_marked-requires
 unfolding held_text held_as
 put_marked-requires c =
-    omega
-    (arith, c.requires, c.ranges.confidence, c.put_byte-start.ensures.behind, c.put_byte-start.auto.output, c.put_value-slash.ensures.behind, c.put_value-slash.auto.output, length-append (value_text c.args.value.now) (47 ∷ decimal c.args.confidence))
+    rw c.from.ensures
+    (omega (arith, c.requires, c.ranges.confidence, length-append {A = ℕ}, ap length c.put_byte.ensures, ap length c.put_value.ensures))
 
 pub returns : goal.returns
 unfolding held_text held_as
-returns c =
-    puts (omega (arith, c.requires)) c.put_byte-start.ensures
-    (puts (omega (arith, c.requires, c.put_byte-start.ensures.behind, c.put_byte-start.auto.output)) c.put_value-slash.ensures c.put_marked.ensures)
+returns c = rw (c.put_marked.ensures, c.put_value.ensures, c.put_byte.ensures, c.from.ensures) (simp append_assoc)

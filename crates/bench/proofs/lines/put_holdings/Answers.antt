@@ -1,64 +1,58 @@
 -- `put_holdings` meets its contract: column by column, until none is left. Assumes nothing.
-use mathlib.Core.Path.{◌≡◌, refl, ◌∙◌, ap}
-use mathlib.Core.List.{◌∷◌}
-use Prim.Native.Nat.{ℕ, ◌+◌, ◌*◌, ◌-◌}
+use mathlib.Core.Path.{◌≡◌, sym, ◌∙◌, ap}
+use mathlib.Core.List.{◌∷◌, ◌++◌}
+use Prim.Native.Nat.{ℕ, ◌+◌, ◌*◌, ◌-◌, ◌≤◌}
 use native.Mathlib.Omega.{arith}
-use borrow.Author.Rules.{rules}
-use lib.ListN.{length, get_or, take, drop, length-append}
-use Rattle.code.specs.Size.{most_columns, vector_room}
+use lib.ListN.{get_or, take, drop}
+use Rattle.code.specs.Size.{vector_room}
 use Rattle.grading.specs.Value.{entries}
-use Rattle.grading.specs.Held.{held_as}
+use Rattle.grading.specs.Held.{held_as, held_in}
+use Rattle.bench_file.specs.Steps.Places.{group_of}
 use Rattle.bench.specs.Listing.{held_text, holdings_text}
-use Rattle.bench.proofs.Listing.Text.{left_all, left_room, left_more, left_none}
+use Rattle.bench.proofs.Listing.Text.{more_put, all_put, next_fits}
 use Rattle.bench.proofs.Listing.Wording.{held_entry, holdings_all, holdings_next, holdings_none, value_in}
 use Rattle.bench.proofs.lines.put_holdings.Goals as goal
+use Rattle.bench.proofs.lines.put_holdings.Goals.{In-loop-j}
 
 pub loop-j-init : goal.loop-j-init
 loop-j-init c =
-    let a = c.args in
-    let long : length a.values ≡ vector_room = search rules in
-    let few : length a.confidences ≡ most_columns = search rules in
-    (omega arith, refl, long, few, rw (holdings_all a.n a.w a.values a.confidences) (left_all _ _ _))
+    rw (c.columns-n.ensures.value, c.size-w.ensures.value) (ap (◌++◌ c.args.text.now) (sym (holdings_all (group_of c.args.settings) c.args.values.now c.args.confidences.now)))
+
+-- the value's place in the array of all
+there : (c : In-loop-j) → c.loop-j.j * c.size-w.result + c.size-w.result ≤ vector_room
+there c = value_in c.columns-n.result c.size-w.result c.loop-j.j (omega (arith, c.columns-n.ensures.bounds)) (omega (arith, c.size-w.ensures.bounds)) (omega arith)
 
 pub overflow_mul-start : goal.overflow_mul-start
-overflow_mul-start c = let l = c.loop-j in omega (arith, value_in c.args.n c.args.w l.j c.requires.0 c.requires.1 (omega arith))
+overflow_mul-start c = omega (arith, there (goal.at.overflow_mul-start c).In-loop-j)
 
-pub overflow_add-end : goal.overflow_add-end
-overflow_add-end c = let l = c.loop-j in omega (arith, value_in c.args.n c.args.w l.j c.requires.0 c.requires.1 (omega arith))
-
-pub slice_bounds-put_held-end : goal.slice_bounds-put_held-end
-slice_bounds-put_held-end c =
-    let l = c.loop-j in
-    omega (arith, l.invariant.2, value_in c.args.n c.args.w l.j c.requires.0 c.requires.1 (omega arith))
-
-pub put_held-next-requires : goal.put_held-next-requires
-put_held-next-requires c =
+pub put_held-requires : goal.put_held-requires
+put_held-requires c =
     let l = c.loop-j in
     let a = c.args in
-    let size : l.j * a.w + a.w - l.j * a.w ≡ a.w = omega arith in
-    let next = holdings_next a.n a.w a.values a.confidences l.j (omega arith) in
-    let long = ap length next ∙ length-append (32 ∷ held_text (held_as (take a.w (drop (l.j * a.w) a.values)) (get_or a.confidences l.j 0))) _ in
-    rw size (omega (arith, left_room l.invariant.4 c.requires.2, long))
+    let w = c.size-w.result in
+    let vs = a.values.now in
+    let cs = a.confidences.now in
+    let size : l.j * w + w - l.j * w ≡ w = omega arith in
+    let n = c.columns-n.result in
+    let held = 32 ∷ held_text (held_as (take w (drop (l.j * w) vs)) (get_or cs l.j 0)) in
+    let more = holdings_text (entries (n - (l.j + 1)) (l.j + 1) (held_entry n w vs cs)) in
+    rw size
+    (next_fits l.text _ a.text.now (holdings_text (held_in (group_of a.settings) vs cs)) held more 36974 l.invariant (holdings_next n w vs cs l.j (omega arith)) c.requires)
 
 pub loop-j-preserved : goal.loop-j-preserved
 loop-j-preserved c =
     let l = c.loop-j in
     let a = c.args in
-    let d = c.put_held-next in
-    let size : l.j * a.w + a.w - l.j * a.w ≡ a.w = omega arith in (
-      omega arith,
-      d.auto.output ∙ l.invariant.1,
-      l.invariant.2,
-      l.invariant.3,
-      left_more _ _ (omega (arith, c.requires)) (holdings_next a.n a.w a.values a.confidences l.j (omega arith)) l.invariant.4 (rw size at d.ensures),
-    )
-
-pub shape_of-output : goal.shape_of-output
-shape_of-output c = c.loop-j.invariant.1
+    let w = c.size-w.result in
+    let size : l.j * w + w - l.j * w ≡ w = omega arith in
+    rw (c.put_held.ensures, size)
+    (more_put l.text _ _ _ _ l.invariant (holdings_next c.columns-n.result w a.values.now a.confidences.now l.j (omega arith)))
 
 pub returns : goal.returns
 returns c =
     let l = c.loop-j in
     let a = c.args in
-    let none : a.n - l.j ≡ 0 = omega arith in
-    left_none (ap (λ (k : ℕ). holdings_text (entries k l.j (held_entry a.n a.w a.values a.confidences))) none ∙ holdings_none _ _) l.invariant.4
+    let n = c.columns-n.result in
+    let f = held_entry n c.size-w.result a.values.now a.confidences.now in
+    let none : n - l.j ≡ 0 = omega arith in
+    all_put l.text _ _ l.invariant (ap (λ (k : ℕ). holdings_text (entries k l.j f)) none ∙ holdings_none f l.j)

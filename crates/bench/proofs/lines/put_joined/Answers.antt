@@ -1,72 +1,54 @@
 -- `put_joined` meets its contract: the first byte, then each other behind a point, until none is left. Assumes nothing.
 use mathlib.Core.Path.{◌≡◌, refl, sym, ◌∙◌, ap}
-use mathlib.Core.List.{List, [], ◌∷◌}
-use Prim.Native.Nat.{ℕ, ◌+◌, ◌≤◌, ◌<◌}
+use mathlib.Core.List.{List, [], ◌∷◌, ◌++◌, append_assoc, append-nil}
+use Prim.Native.Nat.{ℕ}
 use native.Mathlib.Omega.{arith}
 use lib.ListN.{length, get_or, drop, length-append, drop_of_length-le}
+use borrow.Author.Tests.{eqb-true, eqb-false}
 use Rattle.bench.specs.Listing.{decimal, pointed, joined}
-use Rattle.bench.proofs.Listing.Text.{left_all, left_room, left_more, left_none, next_fits, put_nothing, put_alike, puts}
+use Rattle.bench.proofs.Listing.Text.{more_put, all_put, next_fits}
 use Rattle.bench.proofs.Listing.Wording.{joined_first, pointed_next}
 use Rattle.bench.proofs.lines.put_joined.Goals as goal
-
--- room for the first byte and for the others
-room :
-    (at : ℕ) (bs old : List ℕ) → 0 < length bs → at + length (joined bs) ≤ length old →
-    at + length (decimal (get_or bs 0 0)) + length (pointed (drop 1 bs)) ≤ length old
-room at bs old h fits =
-    omega (arith, fits, ap length (joined_first bs h), length-append (decimal (get_or bs 0 0)) (pointed (drop 1 bs)))
 
 pointed_none : (bs : List ℕ) → bs ≡ [] → pointed bs ≡ []
 unfolding pointed
 pointed_none bs e = rw e refl
 
-joined_none : (bs : List ℕ) → length bs ≡ 0 → [] ≡ joined bs
+joined_none : (bs : List ℕ) → length bs ≡ 0 → joined bs ≡ []
 unfolding joined
 joined_none [] e = refl
 joined_none (b ∷ bs) e = absurd (omega arith)
 
-pub returns-then-bytes-eq0 : goal.returns-then-bytes-eq0
-returns-then-bytes-eq0 c =
-    let a = c.args in
-    put_alike (joined_none a.bytes.now c.if-bytes-eq0.true) (put_nothing a.at a.output.now)
+pub returns-then-is_empty : goal.returns-then-is_empty
+returns-then-is_empty c = rw (joined_none c.args.bytes.now (eqb-true _ 0 (sym c.is_empty.ensures ∙ c.if-is_empty.true))) (sym (append-nil _))
 
-pub put_decimal-next-requires : goal.put_decimal-next-requires
-put_decimal-next-requires c =
-    omega (arith, room c.args.at c.args.bytes.now c.args.output.now (omega arith) c.requires)
+pub put_decimal-requires : goal.put_decimal-requires
+put_decimal-requires c =
+    let bytes = c.args.bytes.now in
+    let some = eqb-false (length bytes) 0 (sym c.is_empty.ensures ∙ c.if-is_empty.false) in
+    rw c.from.ensures (omega (arith, c.type_inv.bytes 0, length-append {A = ℕ}, ap length (joined_first bytes (omega arith)), c.requires))
 
 pub loop-i-init : goal.loop-i-init
-loop-i-init c = (
-  omega arith,
-  refl,
-  next_fits _ c.put_decimal-next.ensures (room c.args.at c.args.bytes.now c.args.output.now (omega arith) c.requires),
-  left_all _ _ _,
-)
+loop-i-init c =
+    let bytes = c.args.bytes.now in
+    let some = eqb-false (length bytes) 0 (sym c.is_empty.ensures ∙ c.if-is_empty.false) in
+    rw (c.put_decimal.ensures, c.from.ensures) (append_assoc c.args.text.now (decimal (get_or bytes 0 0)) (pointed (drop 1 bytes)) ∙ ap (◌++◌ c.args.text.now) (sym (joined_first bytes (omega arith))))
 
-pub put_marked-next-requires : goal.put_marked-next-requires
-put_marked-next-requires c =
+pub put_marked-requires : goal.put_marked-requires
+put_marked-requires c =
     let l = c.loop-i in
     let bytes = c.args.bytes.now in
-    let next = ap length (pointed_next bytes l.i (omega arith)) ∙ length-append (46 ∷ decimal (get_or bytes l.i 0)) _ in
-    omega (arith, next, left_room l.invariant.3 l.invariant.2)
+    let fits = next_fits l.text _ c.args.text.now (joined bytes) (46 ∷ decimal (get_or bytes l.i 0)) _ 36974 l.invariant (pointed_next bytes l.i (omega arith)) c.requires in
+    (omega (arith, c.from-in-loop-i.ensures, c.type_inv.bytes l.i), rw c.from-in-loop-i.ensures (omega (arith, fits)))
 
 pub loop-i-preserved : goal.loop-i-preserved
 loop-i-preserved c =
     let l = c.loop-i in
     let bytes = c.args.bytes.now in
-    let m = c.put_marked-next in (
-      omega arith,
-      m.auto.output ∙ l.invariant.1,
-      l.invariant.2,
-      left_more _ _ (omega (arith, l.invariant.2)) (pointed_next bytes l.i (omega arith)) l.invariant.3 m.ensures,
-    )
-
-pub shape_of-output : goal.shape_of-output
-shape_of-output c = c.loop-i.invariant.1 ∙ c.put_decimal-next.auto.output
+    rw (c.put_marked.ensures, c.from-in-loop-i.ensures) (more_put l.text _ _ _ _ l.invariant (pointed_next bytes l.i (omega arith)))
 
 pub returns : goal.returns
 returns c =
     let l = c.loop-i in
     let bytes = c.args.bytes.now in
-    let past : length bytes ≤ l.i = omega arith in
-    let none : pointed (drop l.i bytes) ≡ [] = pointed_none _ (drop_of_length-le bytes past) in
-    put_alike (sym (joined_first bytes (omega arith))) (puts (omega (arith, c.requires)) c.put_decimal-next.ensures (left_none none l.invariant.3))
+    all_put l.text _ _ l.invariant (pointed_none _ (drop_of_length-le bytes (omega arith)))

@@ -21,8 +21,8 @@ pub record SoFar (file : List ℕ) (places : Places) (at : ℕ) : Type 0 where
   pub enough : length file ≤ many + at
   pub rest : commands_from many scenario (drop at file) ≡ whole file
 
-abbrev pub invariant-loop-at : goal.invariant-loop-at
-invariant-loop-at l = SoFar l.file l.places l.at
+abbrev pub invariant-loop-next : goal.invariant-loop-next
+invariant-loop-next l = SoFar l.file l.places l.at
 
-abbrev pub decreases-loop-at : goal.decreases-loop-at
-decreases-loop-at l = length l.file - l.at
+abbrev pub decreases-loop-next : goal.decreases-loop-next
+decreases-loop-next l = length l.file - l.at

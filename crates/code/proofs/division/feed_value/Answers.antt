@@ -1,34 +1,23 @@
 -- `feed_value` meets its contract: each turn is a step in one more plane. Assumes nothing.
-use mathlib.Core.Path.{◌≡◌, refl, ◌∙◌}
+use mathlib.Core.Path.{◌≡◌, ◌∙◌}
+use Prim.Native.Nat.{◌<◌}
 use native.Mathlib.Omega.{arith}
-use Rattle.code.proofs.Encoding.Feeding.{few_rows, fed_none, fed_more, fed_to}
+use Rattle.code.specs.Size.{value_room}
+use Rattle.code.proofs.Encoding.Feeding.{shaped_more, fed_more, fed_to}
 use Rattle.code.proofs.division.feed_value.Goals as goal
-use Rattle.code.proofs.division.feed_value.Goals.{After-feed, At-loop-p, Start}
-
-pub loop-p-init : goal.loop-p-init
-loop-p-init c = (omega arith, refl, λ i. (c.slice_known-1.given i).fits, λ hs byte t. fed_none _ _ _ _ _)
 
 pub feed-requires : goal.feed-requires
-feed-requires c =
-    let l = (goal.at.feed-requires c).At-loop-p in
-    let s = (goal.at.At-loop-p l).Start in
-    let most = few_rows s.args.rows s.requires.one_or_all.0 in
-    (s.requires.one_or_all.0, s.requires.one_or_all.1, omega (arith, s.requires.s_lt_most_columns, l.loop-p.invariant.1))
+feed-requires g c =
+    let shaped = c.loop-p.invariant.0 in
+    (c.requires.rows.1, omega (arith, c.requires.rows.0, c.requires.s_lt_most_columns, shaped.each c.loop-p.p (omega (arith, c.requires.s_lt_most_columns))))
 
 pub loop-p-preserved : goal.loop-p-preserved
-loop-p-preserved c =
-    let fed = (goal.at.loop-p-preserved c).After-feed in
-    let l = (goal.at.After-feed fed).At-loop-p in
-    let s = (goal.at.At-loop-p l).Start in
-    let most = few_rows s.args.rows s.requires.one_or_all.0 in (
-      omega arith,
-      c.windows-1.given ∙ l.loop-p.invariant.1,
-      λ i. (c.slice_known-in-loop-p-1.given i).fits,
-      λ hs byte t. fed_more l.loop-p.p _ _ hs _ _ l.loop-p.windows _ (omega (arith, s.requires.s_lt_most_columns)) (l.loop-p.invariant.3 hs byte t) (fed.feed.ensures hs byte t),
+loop-p-preserved g c =
+    let shaped = c.loop-p.invariant.0 in
+    let inside : c.loop-p.p < value_room = omega (arith, c.requires.s_lt_most_columns.1) in (
+      shaped_more c.loop-p.p c.loop-p.windows _ shaped inside (c.feed.auto.window ∙ shaped.each c.loop-p.p inside) c.feed.ensures.bytes,
+      λ hs byte t. fed_more c.loop-p.p c.loop-p.windows _ shaped inside _ _ _ _ _ (c.loop-p.invariant.1 hs byte t) (c.feed.ensures.added hs byte t),
     )
 
-pub shape_of-windows : goal.shape_of-windows
-shape_of-windows c = c.loop-p.invariant.1
-
 pub returns : goal.returns
-returns c = (c.loop-p.invariant.2, λ hs byte t. fed_to (let e : c.loop-p.p ≡ _ = omega arith in e) (c.loop-p.invariant.3 hs byte t))
+returns g c = (c.loop-p.invariant.0, λ hs byte t. fed_to (let e : c.loop-p.p ≡ _ = omega arith in e) (c.loop-p.invariant.1 hs byte t))

@@ -1,9 +1,5 @@
-use Prim.Native.Nat.{◌≤◌}
 use Rattle.code.proofs.Encoding.Factors.{Factored}
 use Rattle.code.proofs.generator.times_factor.Given as goal
 
 abbrev pub invariant-loop-i : goal.invariant-loop-i
-invariant-loop-i l = (l.i ≤ l.many) × Factored l.c l.i l.initial.polynomial l.polynomial
-
-abbrev pub decreases-loop-i : goal.decreases-loop-i
-decreases-loop-i l = l.i
+invariant-loop-i l = Factored l.c l.i l.initial.polynomial l.polynomial

@@ -1,9 +1,5 @@
-use Prim.Native.Nat.{◌-◌, ◌≤◌}
 use Rattle.counting.specs.Steps.Table.{row_plane, RowPut}
 use Rattle.counting.proofs.filling.copy_row.Given as goal
 
 abbrev pub invariant-loop-p : goal.invariant-loop-p
-invariant-loop-p l = (l.p ≤ l.w) × RowPut l.p l.i (row_plane l.initial.table l.j) l.initial.table l.table
-
-abbrev pub decreases-loop-p : goal.decreases-loop-p
-decreases-loop-p l = l.w - l.p
+invariant-loop-p l = RowPut l.p l.i (row_plane l.initial.table l.j) l.initial.table l.table

@@ -3,28 +3,18 @@ use mathlib.Core.Path.{◌≡◌, ◌∙◌, ap}
 use mathlib.Core.List.{List, []}
 use Prim.Native.Nat.{ℕ}
 use native.Mathlib.Omega.{arith}
-use native.Mathlib.Nat.{mul_comm}
 use lib.ListN.{length, get_or}
 use Rattle.arrays.specs.Array.{in_front}
 use Rattle.code.specs.Size.{most_columns}
 use Rattle.code.specs.Vector.{plane, cut}
 use Rattle.counting.specs.Steps.Table.{row_plane, written_plane}
-use Rattle.counting.proofs.Planes.{plane_gathered, row_put_none, row_put_more, row_put_to}
+use Rattle.counting.proofs.Planes.{plane_gathered, row_put_more}
 use Rattle.counting.proofs.filling.put_row.Goals as goal
 use Rattle.counting.proofs.filling.put_row.Goals.{In-loop-p}
 
-pub loop-p-init : goal.loop-p-init
-loop-p-init c = (omega arith, row_put_none _ _ _ c.requires.4)
-
 -- the row of a plane has a byte for each column
 wide : (c : In-loop-p) → length (get_or (get_or c.loop-p.table c.loop-p.p []) c.args.i []) ≡ most_columns
-wide c = let l = c.loop-p in l.invariant.1.shape.bytes l.p c.args.i (omega arith) (omega arith)
-
-pub gather-requires : goal.gather-requires
-gather-requires c =
-    let a = c.args in
-    let long = wide (goal.at.gather-requires c).In-loop-p in
-    (omega arith, omega arith, omega (arith, mul_comm a.w a.n))
+wide c = let l = c.loop-p in l.invariant.shape.bytes l.p c.args.i (omega arith) (omega arith)
 
 pub loop-p-preserved : goal.loop-p-preserved
 unfolding row_plane written_plane
@@ -32,12 +22,7 @@ loop-p-preserved c =
     let l = c.loop-p in
     let a = c.args in
     let long = wide (goal.at.loop-p-preserved c).In-loop-p in
-    let kept = l.invariant.1.planes_kept l.p (omega arith) in (
-      omega arith,
-      row_put_more _ _ _ l.p _ _ l.invariant.1 (omega arith) (omega arith) (c.gather.ensures.long ∙ long)
-          (plane_gathered a.n a.w l.p a.row.now _ _ (omega arith) (omega arith) c.gather.ensures
-          ∙ ap (λ (rows : List (List ℕ)). in_front (plane l.p (cut a.n a.w a.row.now)) (get_or rows a.i [])) kept),
-    )
-
-pub returns : goal.returns
-returns c = row_put_to (let e : c.loop-p.p ≡ _ = omega arith in e) c.loop-p.invariant.1
+    let kept = l.invariant.planes_kept l.p (omega arith) in
+    row_put_more _ _ _ l.p _ _ l.invariant (omega arith) (omega arith) (c.gather.ensures.long ∙ long)
+    (plane_gathered a.n a.w l.p a.row.now _ _ (omega arith) (omega arith) c.gather.ensures
+    ∙ ap (λ (rows : List (List ℕ)). in_front (plane l.p (cut a.n a.w a.row.now)) (get_or rows a.i [])) kept)

@@ -1,19 +1,23 @@
--- `find` meets its contract: each turn takes the columns past one row, until none is live or no row is left. Assumes nothing.
+-- `find` meets its contract: each turn takes the columns past one row, until all are settled or no row is left. Assumes nothing.
+use mathlib.Core.Path.{sym, ◌∙◌}
 use native.Mathlib.Omega.{arith}
-use Rattle.counting.proofs.Columns.{all_start, all_closed, all_last}
+use lib.ListN.{take}
+use borrow.Author.Rules.{rules}
+use borrow.Author.Tests.{tests}
+use Rattle.std.proofs.lemmas.Iterator.{YieldsList-from_slice}
+use Rattle.std.proofs.lemmas.Iterator.Search.{all_from_yields_List}
+use Rattle.counting.proofs.Columns.{all_start, all_settled, all_closed, all_last}
 use Rattle.counting.proofs.leaders.find.Goals as goal
 
 pub loop-c-init : goal.loop-c-init
-loop-c-init c = (omega arith, all_start _ _ _ _ (omega arith))
+loop-c-init c = all_start _ _ _ _ (omega arith)
 
-pub weigh_row-left-requires : goal.weigh_row-left-requires
-weigh_row-left-requires c = (omega arith, omega arith, omega arith, omega arith, c.loop-c.invariant.1)
-
-pub returns-then-left-eq0 : goal.returns-then-left-eq0
-returns-then-left-eq0 c = let w = c.weigh_row-left in all_closed _ _ _ _ _ _ _ _ w.ensures.all_weighed (w.ensures.k_after (omega (arith, c.if-left-eq0.true)))
-
-pub loop-c-preserved : goal.loop-c-preserved
-loop-c-preserved c = (omega arith, c.weigh_row-left.ensures.all_weighed)
+pub returns-then-all : goal.returns-then-all
+returns-then-all c =
+    let n = c.args.rows.now.n in
+    let standings = c.weigh_row.new.standings in
+    let called = all_from_yields_List (λ s. s.settled) _ _ c.all.result c.all.ensures.ran (YieldsList-from_slice (take n standings) (cc)) (λ y b q k. search (rules, tests)) in
+    all_closed _ _ _ _ _ _ c.weigh_row.ensures (all_settled n standings (omega arith) (sym called ∙ c.if-all.true))
 
 pub returns : goal.returns
-returns c = let l = c.loop-c in all_last _ _ _ _ l.c _ _ _ (omega arith) (omega arith) l.invariant.1
+returns c = all_last _ _ _ _ _ _ (omega arith) (omega arith) c.loop-c.invariant

@@ -7,25 +7,12 @@ use Rattle.errors.proofs.Told.{found_none, found_told}
 use Rattle.errors.proofs.weighted.put_found_errors.Goals as goal
 use Rattle.errors.proofs.weighted.put_found_errors.Goals.{Start}
 
-pub none_found-requires : goal.none_found-requires
-none_found-requires c = (c.requires.fits.0.many, c.requires.fits.1)
-
 abbrev error : Start → ℕ → ℕ → ℕ
 error s j p = let a = s.args in told a.rows.now a.sums.now a.roots p (power 2 (place_exponent a.n (2 * a.t) j))
 
 pub returns-then-none_found : goal.returns-then-none_found
 returns-then-none_found c =
     found_none _ (error (goal.at.returns-then-none_found c).Start) c.args.roots c.args.left _ (λ i. (c.slice_known-1.given i).fits) (c.none_found.ensures c.if-none_found.true) c.requires.fits.2
-
-pub put_all_errors-requires : goal.put_all_errors-requires
-put_all_errors-requires c = record {
-  powers = c.requires.powers;
-  n_le_most_columns = c.requires.n_le_most_columns;
-  fits = c.requires.fits.0;
-}
-
-pub shape_of-weighted : goal.shape_of-weighted
-shape_of-weighted c = c.put_all_errors.ensures.long
 
 pub returns : goal.returns
 returns c =

@@ -1,15 +1,12 @@
--- `height` meets its contract: the bytes' number, read as signed. Assumes nothing.
-use mathlib.Core.Path.{◌∙◌, ap}
-use Rattle.level.specs.Level.{signed, height}
-use Rattle.level.proofs.Integers.{stored}
-use native.Mathlib.Omega.{arith}
+-- `height` meets its contract: four bytes, the high byte first, as 32 bits with a sign. Assumes nothing.
+use Rattle.std.proofs.Common.{◌<◌, ◌∙◌, ℕ, get_or}
+use borrow.Author.Rules.{rules}
+use mir.Syntax.{w32}
+use mir.Facts.{to_z-of_z}
+use Rattle.level.proofs.Integers.{height_read}
 use Rattle.level.proofs.heights.height.Goals as goal
 
-pub signed-requires : goal.signed-requires
-signed-requires c = c.bits-number.ensures.1
-
 pub returns : goal.returns
-unfolding height
 returns c =
-    let read = c.signed.ensures in
-    rw (stored c.signed.result (omega arith)) (read.0 ∙ ap signed c.bits-number.ensures.0, read.1)
+    let small : (i : ℕ) → get_or c.args.bytes i 0 < 256 = search rules in
+    to_z-of_z {w = w32} (record { sfits = c.from_be_bytes.type_inv }) ∙ c.from_be_bytes.ensures ∙ height_read c.args.bytes small

@@ -1,12 +1,9 @@
 use mathlib.Core.Path.{◌≡◌}
-use Prim.Native.Nat.{◌+◌, ◌≤◌}
-use lib.ListN.{length, drop}
+use Prim.Native.Nat.{◌+◌}
+use lib.ListN.{drop}
 use Rattle.locator.specs.Locator.{against}
 use Rattle.locator.specs.Reached.{sums_of}
 use Rattle.locator.proofs.berlekamp.discrepancy.Given as goal
 
 abbrev pub invariant-loop-m : goal.invariant-loop-m
-invariant-loop-m l = (l.m ≤ length l.locator) × (l.sum ≡ against (drop l.m l.locator) (sums_of l.p l.sums) (l.j + l.m))
-
-abbrev pub decreases-loop-m : goal.decreases-loop-m
-decreases-loop-m l = l.m
+invariant-loop-m l = l.sum ≡ against (drop l.m l.locator) (sums_of l.p l.sums) (l.j + l.m)

@@ -8,6 +8,3 @@ use Rattle.locator.proofs.single.is_geometric.Given as goal
 abbrev pub invariant-loop-i : goal.invariant-loop-i
 invariant-loop-i l =
     (1 ≤ l.i) × ((k : ℕ) → k < l.i → 1 ≤ k → get_or l.sums (in_row k l.p) 0 ≡ times l.x (get_or l.sums (in_row k l.p - row_width) 0))
-
-abbrev pub decreases-loop-i : goal.decreases-loop-i
-decreases-loop-i l = l.count - l.i

@@ -1,10 +1,7 @@
 use mathlib.Core.Path.{◌≡◌}
-use Prim.Native.Nat.{◌-◌, ◌≤◌}
+use Prim.Native.Nat.{◌≤◌}
 use Rattle.repair.specs.Steps.Changed.{wrong_rows}
 use Rattle.repair.proofs.changed.count_changed.Given as goal
 
 abbrev pub invariant-loop-k : goal.invariant-loop-k
-invariant-loop-k l = (l.k ≤ l.places) × (l.changed ≤ l.k) × (l.changed ≡ wrong_rows l.k l.weighted)
-
-abbrev pub decreases-loop-k : goal.decreases-loop-k
-decreases-loop-k l = l.places - l.k
+invariant-loop-k l = (l.changed ≤ l.k) × (l.changed ≡ wrong_rows l.k l.weighted)

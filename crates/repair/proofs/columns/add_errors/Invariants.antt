@@ -1,11 +1,7 @@
-use Prim.Native.Nat.{◌-◌, ◌≤◌}
 use lib.ListN.{length, get_or}
 use Rattle.arrays.specs.Array.{Filled}
 use Rattle.field.specs.Field.{plus, times}
 use Rattle.repair.proofs.columns.add_errors.Given as goal
 
 abbrev pub invariant-loop-p : goal.invariant-loop-p
-invariant-loop-p l = (l.p ≤ length l.initial.output) × Filled (length l.initial.output) l.p (λ q. plus (get_or l.value q 0) (times l.constant (get_or l.errors q 0))) l.output
-
-abbrev pub decreases-loop-p : goal.decreases-loop-p
-decreases-loop-p l = length l.initial.output - l.p
+invariant-loop-p l = Filled (length l.initial.output) l.p (λ q. plus (get_or l.value q 0) (times l.constant (get_or l.errors q 0))) l.output

@@ -1,5 +1,5 @@
--- `heard_at` meets its contract: its three cases. Assumes nothing.
-use mathlib.Core.Path.{◌≡◌, refl, ◌∙◌, ap}
+-- `heard_at` meets its contract: a value taken, or none. Assumes nothing.
+use mathlib.Core.Path.{◌≡◌, ◌∙◌, ap}
 use Prim.Native.Nat.{ℕ, ◌+◌, ◌≤◌}
 use native.Mathlib.Omega.{arith}
 use lib.ListN.{length, take, drop, length-drop}
@@ -15,29 +15,20 @@ use Rattle.rounds.specs.Exchange.{value_or_blank}
 use Rattle.record.specs.View.{settings_of}
 use Rattle.record.proofs.View.{frame_of_empty, frame_of_taken}
 use Rattle.rounds.proofs.closing.heard_at.Goals as goal
-use Rattle.rounds.proofs.closing.heard_at.Goals.{Start}
 
-pub returns-then-mine : goal.returns-then-mine
-returns-then-mine c = rw c.if-mine.true refl
-
-pub returns-then-slot-eq0 : goal.returns-then-slot-eq0
-unfolding value_or_blank blank settings_of settings value_size
-returns-then-slot-eq0 c =
-    rw (c.if-mine.false, frame_of_empty c.args.who.w c.args.slot c.if-slot-eq0.true)
-    (take_replicate {A = ℕ} c.args.who.w value_room 0 c.requires)
-
-bytes_long : (c : Start) → length c.args.slot.bytes ≡ longest_frame
-bytes_long c = search rules
-
-pub copy-requires : goal.copy-requires
-copy-requires c = omega (arith, bytes_long (goal.at.copy-requires c).Start)
-
-pub returns : goal.returns
+pub returns-then-slot-ne0 : goal.returns-then-slot-ne0
 unfolding value_or_blank operand_in
-returns c =
-    let w = c.args.who.w in
-    let bytes = c.args.slot.bytes in
-    let room : header_size + w ≤ length bytes = omega (arith, bytes_long (goal.at.returns c).Start) in
-    rw (c.if-mine.false, frame_of_taken w c.args.slot c.if-slot-eq0.false)
+returns-then-slot-ne0 c =
+    let w = c.args.who.now.w in
+    let bytes = c.args.slot.now.bytes in
+    let long : length bytes ≡ longest_frame = search rules in
+    let room : header_size + w ≤ length bytes = omega arith in
+    rw (c.if-mine.false, frame_of_taken w c.args.slot.now c.if-slot-ne0.true)
     (ap (take w) (copied_part w header_size bytes _ _ room c.requires c.copy.ensures)
     ∙ front_value _ _ w (length-take-le w (drop header_size bytes) (omega (arith, length-drop header_size bytes))))
+
+pub returns-else-slot-ne0 : goal.returns-else-slot-ne0
+unfolding value_or_blank blank settings_of settings value_size
+returns-else-slot-ne0 c =
+    rw (c.if-mine.false, frame_of_empty c.args.who.now.w c.args.slot.now c.if-slot-ne0.false)
+    (take_replicate {A = ℕ} c.args.who.now.w value_room 0 c.requires)

@@ -1,13 +1,9 @@
 use mathlib.Core.Bool.{cond}
-use Prim.Native.Nat.{◌+◌, ◌-◌, ◌≤◌}
+use Prim.Native.Nat.{◌+◌}
 use lib.Dec.{eqb}
 use lib.ListN.{get_or}
 use Rattle.arrays.specs.Array.{Written}
-use Rattle.code.specs.Size.{value_room}
 use Rattle.search.proofs.places.count_place.Given as goal
 
 abbrev pub invariant-loop-p : goal.invariant-loop-p
-invariant-loop-p l = (l.p ≤ value_room) × Written 0 l.p (λ q. get_or l.initial.tried q 0 + cond (eqb (get_or l.left q 0) 0) 0 1) l.initial.tried l.tried
-
-abbrev pub decreases-loop-p : goal.decreases-loop-p
-decreases-loop-p l = value_room - l.p
+invariant-loop-p l = Written 0 l.p (λ q. get_or l.initial.tried q 0 + cond (eqb (get_or l.left q 0) 0) 0 1) l.initial.tried l.tried

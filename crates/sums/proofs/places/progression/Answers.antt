@@ -1,10 +1,10 @@
 -- `progression` meets its contract: each exponent is a step on from the one before. Assumes nothing.
-use mathlib.Core.Path.{◌≡◌, refl, sym, ◌∙◌, ap}
+use mathlib.Core.Path.{◌≡◌, sym, ◌∙◌, ap}
 use Prim.Native.Nat.{ℕ, ◌+◌, ◌*◌}
 use native.Mathlib.Omega.{arith}
 use native.Mathlib.Nat.{suc-mul}
 use native.Mathlib.Numerals.{add-one}
-use Rattle.arrays.proofs.Written.{filled_none, filled_more, filled_to}
+use Rattle.arrays.proofs.Written.{filled_more}
 use Rattle.field.specs.Field.{times, power}
 use Rattle.field.proofs.Power.{power_add}
 use Rattle.field.proofs.Table.{powers_at}
@@ -16,21 +16,11 @@ onward start step i e k h q =
     q ∙ sym (power_add e step) ∙ ap (λ (x : ℕ). times x (power 2 step)) h ∙ power_add (start + i * step) step
     ∙ ap (power 2) (rw (add-one i, suc-mul) (omega arith))
 
-pub loop-i-init : goal.loop-i-init
-loop-i-init c = (omega arith, omega arith, ap (power 2) (omega arith), filled_none _ _ _ refl)
-
-pub loop-i-preserved : goal.loop-i-preserved
-loop-i-preserved c =
-    let l = c.loop-i in
+pub loop-constant-preserved : goal.loop-constant-preserved
+loop-constant-preserved c =
+    let l = c.loop-constant in
     let a = c.args in (
-      omega arith,
       c.step_on-exponent.ensures.0,
-      onward a.start a.step l.i l.exponent c.step_on-exponent.result l.invariant.2 c.step_on-exponent.ensures.1,
-      filled_more _ _ _ _ _ l.invariant.3 (omega arith) (powers_at _ c.requires.0 _ l.invariant.1 ∙ l.invariant.2),
+      onward a.start a.step l.constant-index l.exponent c.step_on-exponent.result l.invariant.1 c.step_on-exponent.ensures.1,
+      filled_more _ _ _ _ _ l.invariant.2 (omega arith) (powers_at _ c.args.tables.now.right.0 _ l.invariant.0 ∙ l.invariant.1),
     )
-
-pub shape_of-constants : goal.shape_of-constants
-shape_of-constants c = c.loop-i.invariant.3.long
-
-pub returns : goal.returns
-returns c = filled_to (let e : c.loop-i.i ≡ _ = omega arith in e) c.loop-i.invariant.3

@@ -1,14 +1,11 @@
 use mathlib.Core.Path.{◌≡◌}
-use Prim.Native.Nat.{◌+◌, ◌*◌, ◌-◌, ◌≤◌, ◌<◌}
+use Prim.Native.Nat.{◌+◌, ◌*◌, ◌<◌}
 use lib.ListN.{length}
 use Rattle.arrays.specs.Array.{Filled}
 use Rattle.field.specs.Field.{power}
 use Rattle.sums.proofs.places.progression.Given as goal
 
-abbrev pub invariant-loop-i : goal.invariant-loop-i
-invariant-loop-i l =
-    (l.i ≤ length l.initial.constants) × (l.exponent < 255) × (power 2 l.exponent ≡ power 2 (l.start + l.i * l.step))
-    × Filled (length l.initial.constants) l.i (λ k. power 2 (l.start + k * l.step)) l.constants
-
-abbrev pub decreases-loop-i : goal.decreases-loop-i
-decreases-loop-i l = length l.initial.constants - l.i
+abbrev pub invariant-loop-constant : goal.invariant-loop-constant
+invariant-loop-constant l =
+    (l.exponent < 255) × (power 2 l.exponent ≡ power 2 (l.start + l.constant-index * l.step))
+    × Filled (length l.initial.constants) l.constant-index (λ k. power 2 (l.start + k * l.step)) l.constants

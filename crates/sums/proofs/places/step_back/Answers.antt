@@ -3,8 +3,5 @@ use native.Mathlib.Omega.{arith}
 use Rattle.sums.proofs.AtPlace.Powers.{power_around}
 use Rattle.sums.proofs.places.step_back.Goals as goal
 
-pub returns-then-step-exponent : goal.returns-then-step-exponent
-returns-then-step-exponent c = (omega arith, power_around c.args.exponent 0 _ (omega arith))
-
-pub returns : goal.returns
-returns c = (omega arith, power_around c.args.exponent 1 _ (omega arith))
+pub returns-then-exponent-step : goal.returns-then-exponent-step
+returns-then-exponent-step c = (λ h. omega arith, power_around c.args.exponent 1 _ (omega arith))

@@ -1,14 +1,9 @@
 -- `add_row` meets its contract: the products are added, and a row of zeros has none. Assumes nothing.
 use mathlib.Core.Path.{sym, ◌∙◌}
-use native.Mathlib.Omega.{arith}
-use lib.Seq.{length-take-le}
 use Rattle.arrays.proofs.Zeros.{first_zero_at}
 use Rattle.lanes.specs.Lanes.{row_width}
 use Rattle.sums.proofs.Sums.Terms.{products_of_zeros}
 use Rattle.sums.proofs.rows.add_row.Goals as goal
-
-pub slice_bounds-is_zero-end : goal.slice_bounds-is_zero-end
-slice_bounds-is_zero-end c = sym (length-take-le row_width c.args.row.now (omega arith))
 
 pub returns-then-is_zero : goal.returns-then-is_zero
 returns-then-is_zero c =

@@ -1,42 +1,36 @@
 -- `root_exponents` meets its contract: the remainder by 255 of a root's logarithm times the exponent is the exponent of its power.
 -- Assumes nothing.
-use mathlib.Core.Path.{refl, ◌∙◌, ap}
-use Prim.Native.Nat.{ℕ, ◌+◌, ◌*◌, ◌%◌, ◌≤◌, ◌<◌}
-use native.Mathlib.Nat.{mul-le-mul}
+use mathlib.Core.Path.{◌≡◌, ◌∙◌, ap}
+use Prim.Native.Nat.{◌+◌, ◌≤◌, ◌<◌}
 use native.Mathlib.Omega.{arith}
-use Rattle.arrays.proofs.Written.{filled_none, filled_more}
+use lib.ListN.{length}
+use lib.Seq.{length-take-le}
 use Rattle.field.specs.Field.{power}
-use Rattle.code.specs.Size.{most_checks}
 use Rattle.code.specs.Polynomial.{first_exponent}
 use Rattle.sums.proofs.AtPlace.Powers.{root_power}
+use Rattle.sums.proofs.Sums.Terms.{first_at}
 use Rattle.sums.proofs.rows.root_exponents.Goals as goal
+use Rattle.sums.proofs.rows.root_exponents.Goals.{After-from}
 
-product_small : (l e : ℕ) → l < 255 → e ≤ most_checks → l * e ≤ 255 * most_checks
-product_small l e h k = mul-le-mul {n₂ = 255} {m₂ = most_checks} (omega arith) k
+-- the logarithm of a turn
+module _ (c : After-from) where
+  few : c.args.count ≤ length c.args.logarithms.now
+  few = omega (arith, c.requires.1, c.requires.0.long)
 
-pub loop-i-init : goal.loop-i-init
-loop-i-init c = (omega arith, filled_none _ _ _ refl)
+  inside : c.loop-i.i < c.args.count
+  inside = (first_at c.args.count c.args.logarithms.now few c.loop-i.i c.loop-i-test.true).0
 
-pub overflow_cast-logarithm : goal.overflow_cast-logarithm
-overflow_cast-logarithm c = omega (arith, c.requires.0.new c.loop-i.i (omega arith))
-
-pub overflow_mul-exponents : goal.overflow_mul-exponents
-overflow_mul-exponents c =
-    let i = c.loop-i.i in
-    rw (c.requires.0.new i (omega arith)) (omega (arith, product_small (first_exponent + i) c.args.count (omega arith) c.requires.1))
-
-pub loop-i-preserved : goal.loop-i-preserved
-loop-i-preserved c =
-    let l = c.loop-i in (
-      omega arith,
-      filled_more _ _ _ _ _ l.invariant.1 (omega arith) (ap (λ (x : ℕ). x * c.args.count % 255) (c.requires.0.new l.i (omega arith))),
-    )
+  found : c.from.result ≡ first_exponent + c.loop-i.i
+  found =
+      c.from.ensures ∙ (first_at c.args.count c.args.logarithms.now few c.loop-i.i c.loop-i-test.true).1
+      ∙ c.requires.0.new c.loop-i.i (omega (arith, inside, c.requires.1))
 
 pub returns : goal.returns
 returns c =
     let e = c.args.count in
-    let f = c.loop-i.invariant.1 in
+    let all = length-take-le c.args.count c.args.logarithms.now (omega (arith, c.requires.1, c.requires.0.long)) in
+    let f = c.loop-i.invariant in
     record {
-      exponents = record { long = f.long; small = λ i h. omega (arith, f.new i (omega arith)) };
-      same = λ i h. ap (power 2) (f.new i (omega arith)) ∙ root_power i e;
+      exponents = record { long = f.long; small = λ i h. omega (arith, f.new i (omega (arith, all))) };
+      same = λ i h. ap (power 2) (f.new i (omega (arith, all))) ∙ root_power i e;
     }

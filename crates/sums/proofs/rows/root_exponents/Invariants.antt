@@ -1,12 +1,8 @@
-use Prim.Native.Nat.{◌+◌, ◌*◌, ◌-◌, ◌%◌, ◌≤◌}
+use Prim.Native.Nat.{◌+◌, ◌*◌, ◌%◌}
 use Rattle.arrays.specs.Array.{Filled}
 use Rattle.code.specs.Size.{most_checks}
 use Rattle.code.specs.Polynomial.{first_exponent}
 use Rattle.sums.proofs.rows.root_exponents.Given as goal
 
 abbrev pub invariant-loop-i : goal.invariant-loop-i
-invariant-loop-i l =
-    (l.i ≤ l.count) × Filled most_checks l.i (λ k. (first_exponent + k) * l.count % 255) l.exponents
-
-abbrev pub decreases-loop-i : goal.decreases-loop-i
-decreases-loop-i l = l.count - l.i
+invariant-loop-i l = Filled most_checks l.i (λ k. (first_exponent + k) * l.count % 255) l.exponents

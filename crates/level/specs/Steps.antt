@@ -1,2 +1,0 @@
--- What the steps of the program compute: a reader of the promises needs none of it.
-pub mod Ends

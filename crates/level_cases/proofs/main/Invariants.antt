@@ -1,5 +1,0 @@
--- `level_cases::main` is safe and ends: the turns left fall. Assumes nothing.
-use Rattle.level_cases.proofs.main.Given as goal
-
-abbrev pub decreases-loop-turns : goal.decreases-loop-turns
-decreases-loop-turns l = l.turns

@@ -1,5 +1,0 @@
--- `repair_vectors::main` is safe and ends: the turns left fall. Assumes nothing.
-use Rattle.repair_vectors.proofs.main.Given as goal
-
-abbrev pub decreases-loop-turns : goal.decreases-loop-turns
-decreases-loop-turns l = l.turns

@@ -1,5 +1,0 @@
--- `sajowemi_open` meets its contract, which is that of the call behind it. Assumes nothing.
-use Rattle.sajowemi.proofs.sajowemi_open.Goals as goal
-
-pub returns : goal.returns
-returns c = c.«open».ensures

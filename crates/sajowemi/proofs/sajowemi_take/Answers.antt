@@ -1,5 +1,0 @@
--- `sajowemi_take` meets its contract, which is that of the call behind it. Assumes nothing.
-use Rattle.sajowemi.proofs.sajowemi_take.Goals as goal
-
-pub returns : goal.returns
-returns c = c.take.ensures
