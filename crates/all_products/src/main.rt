@@ -19,18 +19,28 @@ fn shift_and_add(a: u8, b: u8) -> u8 {
     product
 }
 
-// How many products of all pairs agree.
-fn agreeing() -> usize
+// How many products with the first factor a agree. Two loops in place of one over all pairs: in that one the field's tables would be made
+// anew for each product.
+fn agreeing(a: u8) -> usize
+    ensures { result ≤ 256 }
+{
+    let mut count = 0;
+    for b in 0..=u8::MAX {
+        count += usize::from(field::product(a, b) == shift_and_add(a, b));
+    }
+    count
+}
+
+fn all_agreeing() -> usize
     ensures { result ≤ 65536 }
 {
-    (0..=u16::MAX)
-        .filter(|pair| {
-            let [a, b] = pair.to_be_bytes();
-            field::product(a, b) == shift_and_add(a, b)
-        })
-        .count()
+    let mut count = 0;
+    for a in 0..=u8::MAX {
+        count += agreeing(a);
+    }
+    count
 }
 
 fn main(rt: HostRuntime) -> io::Result<()> {
-    println!(rt; "{} of 65536 products agree", agreeing())
+    println!(rt; "{} of 65536 products agree", all_agreeing())
 }

@@ -1,12 +1,13 @@
 // Where in a bench file the own values and messages stand.
 ghost use Rattle.std.specs.Prelude.{◌≡◌, List, ℕ, ◌≤◌, ◌<◌};
 ghost use Rattle.std.proofs.Math.Option.{some};
+ghost use Rattle.code.specs.Settings.{settings as «settings_of», settings_refusal};
 ghost use Rattle.code.specs.Size.{most_columns};
 ghost use Rattle.grading.specs.Value.{Value};
 ghost use Rattle.record.specs.Frame.{operand_size};
 ghost use Rattle.record.specs.Refusal.{open_refusal};
 ghost use Rattle.bench_file.specs.Scenario.{Scenario, only_settings, with_own, with_message, message, own_of, message_of, is_good};
-ghost use Rattle.bench_file.specs.Steps.Places.{most_messages, message_index, group_of, BytesAt, MessageRange, Located};
+ghost use Rattle.bench_file.specs.Steps.Places.{most_messages, message_index, BytesAt, MessageRange, Located};
 
 use code::settings::Settings;
 use code::sizes::MOST_COLUMNS;
@@ -15,7 +16,7 @@ use code::sizes::MOST_COLUMNS;
 const MOST_MESSAGES: usize = 3 * MOST_COLUMNS * MOST_COLUMNS;
 
 // The settings, the place of each column's own value, and of each message by round, sender and reader. Whether there is a message yet.
-#[derive(Drop)]
+#[derive(Clone, Copy)]
 pub struct Places {
     pub settings: Settings,
     pub owns: [Option<usize>; MOST_COLUMNS],
@@ -32,12 +33,13 @@ fn index_of_message(round: u32, from: u32, to: u32) -> usize
 }
 
 impl Places {
-    // The settings alone.
-    pub fn only_settings(settings: Settings) -> Self
-        ensures { (file : List ℕ) → Located file result (only_settings (group_of settings)) }
+    // The settings alone, where they are allowed. Of others nothing is said, and the least that are allowed stand for them.
+    pub fn only_settings(n: u32, t: u32, w: u32) -> Self
+        ensures { (file : List ℕ) → settings_refusal (settings_of n t w) ≡ 0 → Located file result (only_settings (settings_of n t w)) }
     {
+        let least = Settings { n: 1, t: 0, w: 1 };
         Places {
-            settings,
+            settings: Settings::new(n, t, w).unwrap_or(least),
             owns: [None; MOST_COLUMNS],
             messages: [None; MOST_MESSAGES],
             late: false,

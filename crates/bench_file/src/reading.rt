@@ -26,7 +26,7 @@ fn group(file: &[u8]) -> Result<Places, Refusal>
         return Err(Refusal::Form);
     }
     let settings = Settings::new(byte_at(file, 1), byte_at(file, 2), byte_at(file, 3))?;
-    Ok(Places::only_settings(settings))
+    Ok(Places::only_settings(settings.n, settings.t, settings.w))
 }
 
 // The commands behind the group's; a file without an end command is cut short.

@@ -10,10 +10,14 @@ use Rattle.code.specs.Vector.{has_checks}
 use Rattle.code.specs.Entry.{values_in}
 use Rattle.record.specs.Frame.{operand_size, frame_size, header, operand_in, checks_in}
 use Rattle.record.specs.Record.{Who, Found, Rec, found_as}
-use Rattle.record.specs.View.{found_in}
+use Rattle.record.specs.View.{found_in, view}
 use Rattle.record.specs.declared.Findings.{Findings}
 use Rattle.rounds.specs.Steps.Closing.{checked_in}
+use Rattle.record.specs.Refusal.{send_refusal}
+use Rattle.record.specs.declared.Column.{Column}
 use Rattle.column.specs.Call.{Operand, FrameOf}
+use Rattle.column.specs.Entry.{SendSays}
+use Rattle.column.specs.Steps.Sending.{speaking}
 
 -- the operand of each round
 pub operand_own : (m : ℕ) (w : Who) (f : Found) (xs : List ℕ) → m ≡ 1 → xs ≡ w.own → Operand m w f xs
@@ -36,3 +40,8 @@ pub frame_sent :
     FrameOf r (header r.round r.who.number r.who.run ++ xs)
 unfolding FrameOf header operand_in frame_size
 frame_sent r xs e o = (refl, omega arith, o)
+
+-- of a record no more goes into a frame than who the column is, its round and what it has found
+pub spoken_by : (c : Column) (buffer : List ℕ) (z : ℕ) (now : List ℕ) → SendSays (speaking c.who c.round c.found) buffer z now → SendSays c buffer z now
+unfolding view send_refusal FrameOf
+spoken_by c buffer z now s = record { answered = s.answered; done = s.done; refused = s.refused }

@@ -8,13 +8,15 @@ ghost use Rattle.std.specs.Prelude.{◌≡◌, ◌↔◌, IsSome};
 ghost use Rattle.refusal.specs.Number.{answer_of};
 ghost use Rattle.record.specs.Refusal.{close_refusal};
 ghost use Rattle.record.specs.View.{view};
+ghost use Rattle.record.specs.Stored.{no_column};
 ghost use Rattle.column.specs.Entry.{OpenSays, TakeSays, FrameSizeSays, SendSays, CloseSays, ResultSays};
 ghost use Rattle.column.specs.Answer.{opened_record, size_or_none, holdings_of};
+ghost use Rattle.column.specs.Steps.Sending.{speaking};
 
 pub use crate::holdings::Verdict;
 use code::sizes::VALUE_ROOM;
 use record::frames::Due;
-use record::{Column, HEADER, Identity, frames, refusals, slots};
+use record::{Column, Findings, HEADER, Identity, frames, refusals, slots};
 use refusal::Refusal;
 use rounds::closing;
 
@@ -22,10 +24,26 @@ use rounds::closing;
 pub fn open(n: u32, t: u32, w: u32, number: u32, run: u16, own: &[u8]) -> Result<Column, Refusal>
     ensures { OpenSays n t w number run own.now (answer_of result) (opened_record result) }
 {
+    let mut column = record::empty();
+    open_in(&mut column, n, t, w, number, run, own)?;
+    Ok(column)
+}
+
+// The same in a record of zeros, which a refusal leaves: where there is room for the record already, it is not copied there.
+pub fn open_in(
+    column: &mut Column,
+    n: u32,
+    t: u32,
+    w: u32,
+    number: u32,
+    run: u16,
+    own: &[u8],
+) -> Result<(), Refusal>
+    ensures { column.old ≡ no_column → OpenSays n t w number run own.now (answer_of result) column.new }
+{
     refusals::check_open(n, t, w, number, own)?;
     let mut value = [0u8; VALUE_ROOM];
     value[..own.len()].copy_from_slice(own);
-    let mut column = record::empty();
     column.who = Identity {
         n,
         t,
@@ -35,7 +53,7 @@ pub fn open(n: u32, t: u32, w: u32, number: u32, run: u16, own: &[u8]) -> Result
         own: value,
     };
     column.round = 1;
-    Ok(column)
+    Ok(())
 }
 
 // Takes a frame that came in a slot, of the round, or early, of the one that follows. Refused by 1 to 4 or 6 to 15.
@@ -81,15 +99,26 @@ pub fn frame_size(column: &Column) -> Option<u32>
 pub fn send(column: &Column, buffer: &mut [u8]) -> Result<(), Refusal>
     ensures { SendSays column.now buffer.old (answer_of result) buffer.new }
 {
-    let who = &column.who;
-    let settings = refusals::check_close(who, column.round)?;
-    let size = frames::frame_size(settings, column.round);
+    send_by(&column.who, column.round, &column.found, buffer)
+}
+
+// The same by what of a record goes into a frame: whoever has the record by value copies no more of it.
+pub fn send_by(
+    who: &Identity,
+    round: u32,
+    found: &Findings,
+    buffer: &mut [u8],
+) -> Result<(), Refusal>
+    ensures { SendSays (speaking who.now round found.now) buffer.old (answer_of result) buffer.new }
+{
+    let settings = refusals::check_close(who, round)?;
+    let size = frames::frame_size(settings, round);
     if buffer.len() < size {
         return Err(Refusal::Buffer);
     }
-    frames::put_header(column.round, who.number, who.run, buffer);
+    frames::put_header(round, who.number, who.run, buffer);
     let operand = &mut buffer[HEADER..size];
-    sending::put_operand(who, settings, column.round, &column.found, operand);
+    sending::put_operand(who, settings, round, found, operand);
     Ok(())
 }
 
@@ -97,8 +126,8 @@ pub fn send(column: &Column, buffer: &mut [u8]) -> Result<(), Refusal>
 pub fn close(column: &mut Column) -> Result<(), Refusal>
     ensures { CloseSays column.old (answer_of result) column.new }
 {
-    let settings = refusals::check_close(&column.who, column.round)?;
-    let found = closing::found_after(column, settings);
+    refusals::check_close(&column.who, column.round)?;
+    let found = closing::found_after(column);
     let early = column.early;
     let none = slots::no_slots();
     column.found = found;

@@ -27,5 +27,5 @@ pub fn put_operand(
         return;
     }
     let vector = closing::checked(round, found);
-    coded::put_checks(settings, vector, operand);
+    coded::put_checks(settings, &vector, operand);
 }

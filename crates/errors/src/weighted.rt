@@ -85,8 +85,8 @@ impl Fractions<'_, '_> {
         ensures { Filled value_room value_room (λ p. fraction self.now.above.rows.now self.now.below.rows.now self.now.above.many p exponent) result }
     {
         let twice = step_on(exponent, exponent);
-        let above = self.above.values(tables, exponent);
-        let below = self.below.values(tables, twice);
+        let above = self.above.values(&tables.powers, exponent);
+        let below = self.below.values(&tables.powers, twice);
         let mut errors = [0u8; VALUE_ROOM];
         for (p, error) in errors.iter_mut().enumerate() {
             *error = divided(tables, above[p], below[p]);

@@ -3,6 +3,7 @@
 ghost use Rattle.std.specs.Prelude.{◌≡◌, ◌≤◌, ◌<◌};
 ghost use Rattle.std.proofs.Props.{props};
 ghost use Rattle.field.specs.Field.{times, power};
+ghost use Rattle.field.specs.Table.{Powers, Logarithms};
 ghost use Rattle.field.specs.Exponents.{no_exponent, ExponentOf, ExponentOf-prop, LongPowers, LongLogarithms};
 
 use crate::Tables;
@@ -24,16 +25,15 @@ pub struct LongTables {
 impl LongTables {
     pub fn new(tables: &Tables) -> Self {
         LongTables {
-            powers: long_powers(tables),
-            logarithms: long_logarithms(tables),
+            powers: long_powers(&tables.powers),
+            logarithms: long_logarithms(&tables.logarithms),
         }
     }
 
-    // The exponent of a byte.
     pub fn exponent_of(&self, a: u8) -> usize
         ensures { ExponentOf a result × (result ≤ no_exponent) }
     {
-        usize::from(self.logarithms[usize::from(a)])
+        exponent_of(&self.logarithms, a)
     }
 
     // A byte times a power of 2.
@@ -51,23 +51,35 @@ impl LongTables {
     }
 }
 
+// The functions below ask for the one table that they read, and can be called by whoever has no other.
+
 // The powers of 2 twice over, and then zeros.
-fn long_powers(tables: &Tables) -> [u8; LONG_POWERS]
+pub fn long_powers(powers: &[u8; 255]) -> [u8; LONG_POWERS]
+    requires { Powers powers.now }
     ensures { LongPowers result }
 {
     let mut long = [0u8; LONG_POWERS];
-    arrays::copy(&mut long, 0, &tables.powers, 0, 255);
-    arrays::copy(&mut long, 255, &tables.powers, 0, 255);
+    arrays::copy(&mut long, 0, powers, 0, 255);
+    arrays::copy(&mut long, 255, powers, 0, 255);
     long
 }
 
 // An exponent of each byte.
-fn long_logarithms(tables: &Tables) -> [u16; 256]
+pub fn long_logarithms(logarithms: &[u8; 256]) -> [u16; 256]
+    requires { Logarithms logarithms.now }
     ensures { LongLogarithms result }
 {
     let mut long = [NO_EXPONENT; 256];
     for a in 1..256 {
-        long[a] = u16::from(tables.logarithms[a]);
+        long[a] = u16::from(logarithms[a]);
     }
     long
+}
+
+// The exponent of a byte.
+pub fn exponent_of(logarithms: &[u16; 256], a: u8) -> usize
+    requires { LongLogarithms logarithms.now }
+    ensures { ExponentOf a result × (result ≤ no_exponent) }
+{
+    usize::from(logarithms[usize::from(a)])
 }

@@ -3,12 +3,12 @@
 use mathlib.Core.Path.{◌≡◌, refl, ap}
 use mathlib.Core.Bool.{Bool, true, false, cond}
 use mathlib.Core.List.{[], ◌∷◌}
-use Prim.Native.Nat.{ℕ, suc, ◌+◌, ◌-◌, ◌≤◌, ◌<◌}
+use Prim.Native.Nat.{ℕ, suc, ◌+◌, ◌-◌, ◌/◌, ◌≤◌, ◌<◌}
 use native.Mathlib.Omega.{arith}
 use lib.Dec.{ltb}
-use lib.IntN.{ℤ, pos, negsuc, sub_ℕ, ◌+ℤ◌}
+use lib.IntN.{ℤ, pos, negsuc, neg_ℤ, sub_ℕ, ◌+ℤ◌, ◌-ℤ◌}
 use lib.ListN.{get_or}
-use lib.Signed.{mag, mag_shr}
+use lib.Signed.{mag, mag_shr, lt_z, quot_z}
 use mir.Syntax.{w32, w64}
 use mir.Val.{SFits, to_z, of_z}
 use mir.Facts.{to_z-of_z}
@@ -38,6 +38,12 @@ halved_down : (a : ℤ) → int_div_euclid a (pos 2) ≡ halved a
 unfolding halved
 halved_down (pos a) = refl
 halved_down (negsuc a) = refl
+
+-- the same by a division that rounds toward zero, of a number below zero that is made one less before it
+pub halved_below : (a : ℤ) → lt_z a (pos 0) ≡ true → quot_z (a -ℤ pos 1) (pos 2) ≡ halved a
+unfolding halved
+halved_below (pos a) h = absurd (omega (arith, ltb-true a 0 h))
+halved_below (negsuc a) h = ap (λ (q : ℕ). neg_ℤ (pos q)) (let e : suc (suc (a + 0)) / 2 ≡ suc (a / 2) = omega arith in e)
 
 -- the sum of two numbers of 32 bits, and its half
 module _ (a b : ℤ) (first : Short a) (second : Short b) where

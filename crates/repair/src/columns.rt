@@ -19,9 +19,9 @@ use sums::places::{first_logarithm, progression};
 fn inverse_weights(tables: &Tables) -> [u8; MOST_COLUMNS]
     ensures { Filled most_columns most_columns (λ k. power 2 (first_exponent + k * first_exponent)) result }
 {
-    let first = first_logarithm(tables);
+    let first = first_logarithm(&tables.logarithms);
     let mut constants = [0u8; MOST_COLUMNS];
-    progression(tables, first, first, &mut constants);
+    progression(&tables.powers, first, first, &mut constants);
     constants
 }
 

@@ -50,15 +50,16 @@ fn heard(who: &Identity, settings: Settings, slots: &[Slot; MOST_COLUMNS]) -> [u
     vector
 }
 
-// The vector whose checks go round: V in round two, Y in round three.
+// The vector whose checks go round: V in round two, Y in round three. It is copied: for a pointer into the record that goes further the edge
+// would keep a copy of the whole record.
 #[tactic(auto, unfolding(crate::specs::Steps::Closing::checked_in))]
-pub fn checked(round: u32, found: &Findings) -> &[u8; VECTOR_ROOM]
-    ensures { result.now ≡ checked_in round found.now }
+pub fn checked(round: u32, found: &Findings) -> [u8; VECTOR_ROOM]
+    ensures { result ≡ checked_in round found.now }
 {
     if round == 2 {
-        &found.heard
+        found.heard
     } else {
-        &found.agreed
+        found.agreed
     }
 }
 
@@ -79,7 +80,16 @@ fn put_table(
 }
 
 // What the column has found when its round is closed.
-pub fn found_after(column: &Column, settings: Settings) -> Findings
+pub fn found_after(column: &Column) -> Findings
+    requires { close_refusal (view column.now) ≡ 0 }
+    ensures { Finds column.now result }
+{
+    let who = &column.who;
+    found_by(column, Settings::new(who.n, who.t, who.w).unwrap())
+}
+
+// The same by the column's settings.
+fn found_by(column: &Column, settings: Settings) -> Findings
     requires { (close_refusal (view column.now) ≡ 0) × SettingsAre column.now.who.n column.now.who.t column.now.who.w settings }
     ensures { Finds column.now result }
 {
@@ -90,7 +100,7 @@ pub fn found_after(column: &Column, settings: Settings) -> Findings
         found.heard = vector;
         return found;
     }
-    let own = Coded::new(settings, *checked(column.round, &column.found));
+    let own = Coded::new(settings, checked(column.round, &column.found));
     let mut told = [0u8; MOST_COLUMNS];
     let mut table = [[[0u8; MOST_COLUMNS]; MOST_COLUMNS]; VALUE_ROOM];
     put_table(

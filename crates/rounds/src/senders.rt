@@ -63,7 +63,7 @@ fn repaired(
 }
 
 // The last repair: its checks, in front of their array, its answer, and the row of the table that it gave.
-#[derive(Drop)]
+#[derive(Clone, Copy)]
 pub struct Last {
     pub checks: [u8; CHECKS_ROOM],
     pub answer: RepairAnswer,

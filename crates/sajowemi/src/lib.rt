@@ -27,13 +27,13 @@ pub extern "C" fn sajowemi_open(
 ) -> Outcome
     ensures { OpenSays n t w number run own.now result.answer result.column }
 {
-    match column::open(n, t, w, number, run, own) {
-        Ok(column) => Outcome { answer: 0, column },
-        Err(refusal) => Outcome {
-            answer: refusal.number(),
-            column: record::empty(),
-        },
-    }
+    let mut outcome = Outcome {
+        answer: 0,
+        column: record::empty(),
+    };
+    let opening = column::open_in(&mut outcome.column, n, t, w, number, run, own);
+    outcome.answer = refusal::answer(opening);
+    outcome
 }
 
 #[unsafe(no_mangle)]
@@ -56,7 +56,9 @@ pub extern "C" fn sajowemi_frame_size(column: Column) -> u32
 pub extern "C" fn sajowemi_send(column: Column, buffer: &mut [u8]) -> u32
     ensures { SendSays column buffer.old result buffer.new }
 {
-    refusal::answer(column::send(&column, buffer))
+    let who = column.who;
+    let found = column.found;
+    refusal::answer(column::send_by(&who, column.round, &found, buffer))
 }
 
 #[unsafe(no_mangle)]

@@ -82,7 +82,7 @@ fn try_places(
         if arrays::is_zero(&left) {
             break;
         }
-        let values = polynomials.values(tables, place_exponent(n, count, j));
+        let values = polynomials.values(&tables.powers, place_exponent(n, count, j));
         count_place(&left, &mut tried);
         find_roots(&values, &mut left, &mut rows, ROW_WIDTH * j);
         turns += 1;

@@ -4,6 +4,7 @@
 ghost use Rattle.std.specs.Prelude.{◌≡◌, ℕ, ◌+◌, ◌*◌, ◌≤◌, ◌<◌, length, get_or};
 ghost use Rattle.arrays.specs.Array.{Filled};
 ghost use Rattle.field.specs.Field.{power};
+ghost use Rattle.field.specs.Table.{Powers, Logarithms};
 ghost use Rattle.code.specs.Size.{most_columns, most_checks, most_bad};
 ghost use Rattle.lanes.specs.Lanes.{row_width, lane};
 ghost use Rattle.code.specs.Polynomial.{eval, first_exponent};
@@ -11,7 +12,6 @@ ghost use Rattle.locator.specs.Errors.{place_exponent};
 ghost use Rattle.sums.specs.Places.{CoefficientTables};
 
 use code::sizes::MOST_BAD;
-use field::Tables;
 use lanes::{ROW_WIDTH, TABLE_ROOM};
 
 // Room for the tables of every row of a locator's coefficients.
@@ -45,13 +45,13 @@ pub fn step_back(exponent: u8, step: u8) -> u8
 }
 
 // The powers of 2 with the exponents start, start + step, start + 2·step and so on.
-pub fn progression(tables: &Tables, start: usize, step: usize, constants: &mut [u8])
-    requires { (start < 255) × (step < 255) }
+pub fn progression(powers: &[u8; 255], start: usize, step: usize, constants: &mut [u8])
+    requires { Powers powers.now × (start < 255) × (step < 255) }
     ensures { Filled (length constants.old) (length constants.old) (λ i. power 2 (start + i * step)) constants.new }
 {
     let mut exponent = start;
     for constant in constants.iter_mut() {
-        *constant = tables.powers[exponent];
+        *constant = powers[exponent];
         exponent = step_on(exponent, step);
     }
 }
@@ -68,11 +68,12 @@ pub fn place_exponent(n: usize, count: usize, j: usize) -> usize
 }
 
 // The logarithm of the first root, by the table that the generator is built of.
-pub fn first_logarithm(tables: &Tables) -> usize
+pub fn first_logarithm(logarithms: &[u8; 256]) -> usize
+    requires { Logarithms logarithms.now }
     ensures { result ≡ first_exponent }
 {
     let roots = code::roots::roots();
-    usize::from(tables.logarithms[usize::from(roots[0])])
+    usize::from(logarithms[usize::from(roots[0])])
 }
 
 // The first row of coefficients. All of them are bytes.
@@ -98,14 +99,14 @@ pub struct Polynomials<'a> {
 
 impl Polynomials<'_> {
     // Each plane's polynomial at the place with this exponent: the first row of coefficients, and to it each other, times the place's power.
-    pub fn values(&self, tables: &Tables, exponent: usize) -> [u8; ROW_WIDTH]
-        requires { exponent < 255 }
+    pub fn values(&self, powers: &[u8; 255], exponent: usize) -> [u8; ROW_WIDTH]
+        requires { Powers powers.now × (exponent < 255) }
         ensures { Filled row_width row_width (λ p. eval (lane p self.now.many self.now.rows.now) (power 2 exponent)) result }
     {
         let mut row = first_row(self.rows);
         let mut raised = exponent;
         for m in 1..self.many {
-            let power = tables.powers[raised];
+            let power = powers[raised];
             lanes::add_from_tables(self.multiples, TABLE_ROOM * m, power, &mut row, 0);
             raised = step_on(raised, exponent);
         }

@@ -27,7 +27,7 @@ use Rattle.bench.proofs.Listing.Wording.{lines_same}
 
 pub refused_printed : (file : List ℕ) (e : Refusal) (t : Parse) → ParsedAs t file (Err e) → Printed t (refused_line (number_of e))
 unfolding ParsedAs Printed
-refused_printed file e (refused n) h = ap refused_line h
+refused_printed file e (refused n) h = ap refused_line h.0
 refused_printed file e (parsed f) h = absurd h
 
 pub parsed_located : (file : List ℕ) (p : Places) (t : Parse) → ParsedAs t file (Ok p) → (f : Scenario) × (t ≡ parsed f) × Located file p f

@@ -16,24 +16,24 @@ use Rattle.record.specs.declared.Column.{Column}
 use Rattle.record.proofs.Refusal.{close_round}
 use Rattle.column.proofs.Step.{refused_says, leads_closing}
 use Rattle.column.proofs.close.Goals as goal
-use Rattle.column.proofs.close.Goals.{In_ok-settings}
+use Rattle.column.proofs.close.Goals.{In_ok-check_close}
 
-pub returns-in_err-settings : goal.returns-in_err-settings
+pub returns-in_err-check_close : goal.returns-in_err-check_close
 unfolding view close_refusal
-returns-in_err-settings c =
+returns-in_err-check_close c =
     let p = err_from_is_err_and c.from_residual.result c.from_residual.ensures.1 in
-    rw (p.1, p.2) (refused_says _ _ c.in_err-settings.ensures.answer (λ z. omega (arith, number-positive c.in_err-settings.field-0.0)))
+    rw (p.1, p.2) (refused_says _ _ c.in_err-check_close.ensures.answer (λ z. omega (arith, number-positive c.in_err-check_close.field-0.0)))
 
-passed : (c : In_ok-settings) → close_refusal (view c.args.column.now) ≡ 0
+passed : (c : In_ok-check_close) → close_refusal (view c.args.column.now) ≡ 0
 unfolding view close_refusal
-passed c = sym c.in_ok-settings.ensures.answer
+passed c = sym c.in_ok-check_close.ensures.answer
 
 pub found_after-found-requires : goal.found_after-found-requires
-found_after-found-requires c = (passed (goal.at.found_after-found-requires c).In_ok-settings, c.in_ok-settings.ensures.same)
+found_after-found-requires c = passed (goal.at.found_after-found-requires c).In_ok-check_close
 
 pub overflow_add-column : goal.overflow_add-column
 unfolding view
-overflow_add-column c = omega (arith, close_round (view c.args.column.now) (passed (goal.at.overflow_add-column c).In_ok-settings))
+overflow_add-column c = omega (arith, close_round (view c.args.column.now) (passed (goal.at.overflow_add-column c).In_ok-check_close))
 
 -- a column one round on, the room for early frames as it is made
 abbrev with_room : Column → Findings → List Slot → Column
@@ -45,7 +45,7 @@ returns c =
     let a = c.args.column.now in
     let f = c.found_after-found.result in
     let finds = c.found_after-found.ensures in
-    let zero = passed (goal.at.returns c).In_ok-settings in
+    let zero = passed (goal.at.returns c).In_ok-check_close in
     let now : with_room a f c.no_slots-none.result ≡ one_on a f = ap (with_room a f) c.no_slots-none.ensures in
     record {
       answered = sym zero;

@@ -1,6 +1,6 @@
 -- The syndromes of checks row by row: check c's byte times the powers count − 1 − c of the roots is what one more check adds to
 -- the sums. With zero bytes at the columns the sums are the syndromes. Assumes nothing.
-use mathlib.Core.Path.{◌≡◌, refl, sym, ◌∙◌, ap, ap₂, subst}
+use mathlib.Core.Path.{◌≡◌, refl, sym, ◌∙◌, ap, ap₂}
 use mathlib.Core.Bool.{true}
 use mathlib.Core.List.{List, [], ◌∷◌, ◌++◌}
 use Prim.Native.Nat.{ℕ, zero, suc, ◌+◌, ◌-◌, ◌<◌}

@@ -1,14 +1,8 @@
 -- The exponents of the roots' powers, from one power to the one below. Assumes nothing.
-use mathlib.Core.Path.{◌≡◌, sym, ◌∙◌, ap, subst}
 use mathlib.Core.List.{List}
-use Prim.Native.Nat.{ℕ, ◌+◌, ◌≤◌, ◌<◌}
+use Prim.Native.Nat.{ℕ, ◌+◌, ◌≤◌}
 use native.Mathlib.Omega.{arith}
-use lib.ListN.{get_or, set, length-set}
-use lib.Seq.{get_or-set_same, get_or-set_other}
-use borrow.Author.Count.{below_more}
-use Rattle.field.specs.Field.{power}
 use Rattle.code.specs.Size.{most_checks}
-use Rattle.code.specs.Polynomial.{first_exponent}
 use Rattle.sums.specs.Rows.{Lowered, RootExponents}
 use Rattle.sums.proofs.AtPlace.Powers.{root_power_below}
 

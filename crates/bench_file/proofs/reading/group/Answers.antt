@@ -12,4 +12,4 @@ returns-clause-located c =
     let same = c.in_ok-settings.ensures.same in
     let e : group_of c.in_ok-settings.settings ≡ group_in file =
     simp (same.0, same.1, same.2, c.byte_at.ensures.0, c.byte_at-2.ensures.0, c.byte_at-3.ensures.0) in
-    rw (sym e) (c.only_settings.ensures file)
+    rw (sym e) (c.only_settings.ensures file c.in_ok-settings.settings.allowed)

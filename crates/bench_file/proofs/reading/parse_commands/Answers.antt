@@ -16,7 +16,7 @@ use Rattle.bench_file.specs.Steps.CommandAt.{Stepped}
 use Rattle.bench_file.specs.Steps.Reading.{ParsedAs}
 use Rattle.bench_file.specs.declared.places.Places.{Places}
 use Rattle.bench_file.proofs.OneCommand.Readings.{command_fits}
-use Rattle.bench_file.proofs.WholeFile.Commands.{refused_at, step_end, step_next, head_some}
+use Rattle.bench_file.proofs.WholeFile.Commands.{command_le, refused_at, step_end, step_next, head_some}
 use Rattle.bench_file.proofs.reading.parse_commands.Invariants.{whole, SoFar}
 use Rattle.bench_file.proofs.reading.parse_commands.Goals as goal
 use Rattle.bench_file.proofs.reading.parse_commands.Goals.{In-Some}
@@ -31,10 +31,9 @@ module _ (file : List ℕ) (places : Places) (at : ℕ) (i : SoFar file places a
   turned_down : (e : Refusal) (p : Places) → Stepped i.scenario file at (Err e) p → ParsedAs (whole file) file (Err e)
   unfolding Stepped ParsedAs
   turned_down e p h =
-      rw
-      (sym i.rest
-      ∙ refused_at i.many i.scenario _ (omega (arith, length-drop at file, i.enough)) (λ z. absurd (omega (arith, h, z, number-positive e))))
-      h
+      let fault : command_refusal i.scenario (drop at file) ≡ 0 → ⊥ = λ z. absurd (omega (arith, h, z, number-positive e)) in
+      rw (sym i.rest ∙ refused_at i.many i.scenario _ (omega (arith, length-drop at file, i.enough)) fault)
+      (h, fault, command_le i.scenario (drop at file))
 
   -- a command has a byte, and all its bytes are there
   more : command_refusal i.scenario (drop at file) ≡ 0 → at < length file

@@ -52,7 +52,7 @@ returns-then-round-eq1 c =
 pub put_checks-requires : goal.put_checks-requires
 unfolding operand_size
 put_checks-requires c =
-    let long : length c.checked-vector.result.now ≡ vector_room = search rules in
+    let long : length c.checked-vector.result ≡ vector_room = search rules in
     (long, rw (same (goal.at.put_checks-requires c).Start) (c.requires.long ∙ rw (ne_eqb _ 1 c.if-round-eq1.false)))
 
 -- what was put in, of the column's settings

@@ -5,4 +5,4 @@ use Rattle.field.proofs.Exponents.{lengthened_all}
 use Rattle.field.proofs.long.long_logarithms.Goals as goal
 
 pub returns : goal.returns
-returns c = lengthened_all _ _ _ (omega arith) c.args.tables.now.right.1 c.loop-a.invariant
+returns c = lengthened_all _ _ _ (omega arith) c.requires c.loop-a.invariant

@@ -2,4 +2,4 @@ use Rattle.field.proofs.Exponents.{Lengthened}
 use Rattle.field.proofs.long.long_logarithms.Given as goal
 
 abbrev pub invariant-loop-a : goal.invariant-loop-a
-invariant-loop-a l = Lengthened l.a l.tables.logarithms l.long
+invariant-loop-a l = Lengthened l.a l.logarithms l.long

@@ -4,4 +4,4 @@ use Rattle.field.proofs.Exponents.{long_made}
 use Rattle.field.proofs.long.long_powers.Goals as goal
 
 pub returns : goal.returns
-returns c = long_made _ _ _ _ c.args.tables.now.right.0 refl refl c.copy.ensures c.copy-2.ensures
+returns c = long_made _ _ _ _ c.requires refl refl c.copy.ensures c.copy-2.ensures

@@ -8,5 +8,5 @@ use Rattle.sums.proofs.places.first_logarithm.Goals as goal
 
 pub returns : goal.returns
 returns c =
-    c.from-2.ensures ∙ ap (λ (a : ℕ). get_or c.args.tables.now.logarithms a 0) c.from.ensures
-    ∙ root_logarithm _ _ c.args.tables.now.right.1 c.roots-roots.ensures 0 (omega arith)
+    c.from-2.ensures ∙ ap (λ (a : ℕ). get_or c.args.logarithms.now a 0) c.from.ensures
+    ∙ root_logarithm _ _ c.requires c.roots-roots.ensures 0 (omega arith)

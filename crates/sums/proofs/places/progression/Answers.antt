@@ -22,5 +22,5 @@ loop-constant-preserved c =
     let a = c.args in (
       c.step_on-exponent.ensures.0,
       onward a.start a.step l.constant-index l.exponent c.step_on-exponent.result l.invariant.1 c.step_on-exponent.ensures.1,
-      filled_more _ _ _ _ _ l.invariant.2 (omega arith) (powers_at _ c.args.tables.now.right.0 _ l.invariant.0 ∙ l.invariant.1),
+      filled_more _ _ _ _ _ l.invariant.2 (omega arith) (powers_at _ c.requires.0 _ l.invariant.0 ∙ l.invariant.1),
     )

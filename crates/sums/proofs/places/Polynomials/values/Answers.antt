@@ -20,6 +20,6 @@ loop-m-preserved c =
     let m = c.loop-m.m in (
       c.step_on-raised.ensures.0,
       place_power_next c.args.exponent m c.loop-m.raised _ c.loop-m.invariant.1 c.step_on-raised.ensures.1,
-      values_more c.args.exponent rows byte m _ _ _ (powers_at _ c.args.tables.now.right.0 _ c.loop-m.invariant.0 ∙ c.loop-m.invariant.1) c.loop-m.invariant.2
+      values_more c.args.exponent rows byte m _ _ _ (powers_at _ c.requires.0 _ c.loop-m.invariant.0 ∙ c.loop-m.invariant.1) c.loop-m.invariant.2
           (c.add_from_tables.ensures _ (λ p. byte _) (c.args.self.now.made.each m (omega arith) (omega arith))),
     )

@@ -1,4 +1,4 @@
--- `open` meets its contract: who the column is stands in the empty record, in round one. Assumes nothing.
+-- `open_in` meets its contract: who the column is stands in the empty record, in round one. Assumes nothing.
 use mathlib.Core.Path.{refl, sym, ◌∙◌, ap}
 use mathlib.Core.List.{List, ◌++◌}
 use Prim.Native.Nat.{ℕ, ◌≤◌}
@@ -13,8 +13,8 @@ use Rattle.record.specs.Stored.{identity, no_column, opened_column}
 use Rattle.record.specs.declared.Identity.{Identity}
 use Rattle.record.specs.declared.Column.{Column}
 use Rattle.record.proofs.Refusal.{Opens, opens_of}
-use Rattle.column.proofs.open.Goals as goal
-use Rattle.column.proofs.open.Goals.{In_ok-check_open}
+use Rattle.column.proofs.open_in.Goals as goal
+use Rattle.column.proofs.open_in.Goals.{In_ok-check_open}
 
 opens : (c : In_ok-check_open) → Opens (settings c.args.n c.args.t c.args.w) c.args.number c.args.own.now
 opens c = opens_of _ _ _ (sym c.in_ok-check_open.ensures)
@@ -40,7 +40,7 @@ begun c i = record { who = i; slots = c.slots; early = c.early; found = c.found;
 
 pub returns : goal.returns
 unfolding no_column opened_column identity padded in_front
-returns c =
+returns c empty =
     let a = c.args in
     let who : (own : List ℕ) → Identity = λ own. record { n = a.n; t = a.t; w = a.w; number = a.number; run = a.run; own = own } in
     let rest = drop (length a.own.now) (replicate {A = ℕ} value_room 0) in
@@ -48,7 +48,7 @@ returns c =
       answered = c.in_ok-check_open.ensures;
       done =
           λ z.
-          ap (λ (q : Column). begun q (who (c.copy_from_slice.new.self ++ rest))) c.empty-column.ensures
+          ap (λ (q : Column). begun q (who (c.copy_from_slice.new.self ++ rest))) empty
           ∙ ap (λ (bs : List ℕ). begun no_column (who (bs ++ rest))) c.copy_from_slice.ensures.after;
       refused = λ z. absurd (z refl);
     }
