@@ -26,6 +26,6 @@ pub fn put_operand(
         operand.copy_from_slice(&who.own[..settings.size()]);
         return;
     }
-    let vector = closing::checked(round, found);
+    let vector = closing::checked_copy(round, found);
     coded::put_checks(settings, &vector, operand);
 }

@@ -50,10 +50,21 @@ fn heard(who: &Identity, settings: Settings, slots: &[Slot; MOST_COLUMNS]) -> [u
     vector
 }
 
-// The vector whose checks go round: V in round two, Y in round three. It is copied: for a pointer into the record that goes further the edge
-// would keep a copy of the whole record.
+// The vector whose checks go round: V in round two, Y in round three.
 #[tactic(auto, unfolding(crate::specs::Steps::Closing::checked_in))]
-pub fn checked(round: u32, found: &Findings) -> [u8; VECTOR_ROOM]
+pub fn checked(round: u32, found: &Findings) -> &[u8; VECTOR_ROOM]
+    ensures { result.now ≡ checked_in round found.now }
+{
+    if round == 2 {
+        &found.heard
+    } else {
+        &found.agreed
+    }
+}
+
+// The same as a copy: where a pointer into the record went further, the edge would keep a copy of all of it.
+#[tactic(auto, unfolding(crate::specs::Steps::Closing::checked_in))]
+pub fn checked_copy(round: u32, found: &Findings) -> [u8; VECTOR_ROOM]
     ensures { result ≡ checked_in round found.now }
 {
     if round == 2 {
@@ -100,7 +111,7 @@ fn found_by(column: &Column, settings: Settings) -> Findings
         found.heard = vector;
         return found;
     }
-    let own = Coded::new(settings, checked(column.round, &column.found));
+    let own = Coded::new(settings, checked_copy(column.round, &column.found));
     let mut told = [0u8; MOST_COLUMNS];
     let mut table = [[[0u8; MOST_COLUMNS]; MOST_COLUMNS]; VALUE_ROOM];
     put_table(
@@ -130,4 +141,29 @@ fn found_by(column: &Column, settings: Settings) -> Findings
     found.confidences = confidences;
     found.told_three = told;
     found
+}
+
+#[cfg(test)]
+mod tests {
+    use super::*;
+    use std::test::Fail;
+
+    // V's bytes in round two and Y's in round three, lent and copied.
+    #[test]
+    fn checked_by_round() -> Result<(), Fail> {
+        let mut found = record::empty().found;
+        for byte in 0..=u8::MAX {
+            found.heard[usize::from(byte)] = byte;
+            found.agreed[usize::from(byte)] = u8::MAX - byte;
+        }
+        for (round, vector) in [(2, found.heard), (3, found.agreed)] {
+            if *checked(round, &found) != vector {
+                Err("another vector is lent")?;
+            }
+            if checked_copy(round, &found) != vector {
+                Err("another vector is copied")?;
+            }
+        }
+        Ok(())
+    }
 }

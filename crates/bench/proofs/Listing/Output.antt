@@ -25,9 +25,14 @@ use Rattle.bench.specs.Steps.Running.{GroupRan}
 use Rattle.bench_file.specs.declared.places.Places.{Places}
 use Rattle.bench.proofs.Listing.Wording.{lines_same}
 
+-- turned down by a refusal, whatever its number
+pub number_printed : (e : Refusal) (n : ℕ) → number_of e ≡ n → Printed (refused n) (refused_line (number_of e))
+unfolding Printed
+number_printed e n h = ap refused_line h
+
 pub refused_printed : (file : List ℕ) (e : Refusal) (t : Parse) → ParsedAs t file (Err e) → Printed t (refused_line (number_of e))
-unfolding ParsedAs Printed
-refused_printed file e (refused n) h = ap refused_line h.0
+unfolding ParsedAs
+refused_printed file e (refused n) h = number_printed e n h.0
 refused_printed file e (parsed f) h = absurd h
 
 pub parsed_located : (file : List ℕ) (p : Places) (t : Parse) → ParsedAs t file (Ok p) → (f : Scenario) × (t ≡ parsed f) × Located file p f

@@ -52,7 +52,7 @@ returns-then-round-eq1 c =
 pub put_checks-requires : goal.put_checks-requires
 unfolding operand_size
 put_checks-requires c =
-    let long : length c.checked-vector.result ≡ vector_room = search rules in
+    let long : length c.checked_copy-vector.result ≡ vector_room = search rules in
     (long, rw (same (goal.at.put_checks-requires c).Start) (c.requires.long ∙ rw (ne_eqb _ 1 c.if-round-eq1.false)))
 
 -- what was put in, of the column's settings
@@ -61,7 +61,7 @@ checked :
     (let who = c.args.who.now in
     has_checks (settings_of who) (values_in (settings_of who) who.n (checked_in c.args.round c.args.found.now)) (checks_in (settings_of who) c.put_checks.new.operand)
     ≡ true)
-checked c = rw (same (goal.at.After-put_checks c).Start, c.requires.fine.1.0, c.checked-vector.ensures) at c.put_checks.ensures
+checked c = rw (same (goal.at.After-put_checks c).Start, c.requires.fine.1.0, c.checked_copy-vector.ensures) at c.put_checks.ensures
 
 pub returns : goal.returns
 unfolding who_in who_as settings_of settings

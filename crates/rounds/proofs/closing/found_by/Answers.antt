@@ -55,7 +55,7 @@ unfolding settings_of
 own_vector c bytes e =
     let s = c.args.settings in
     let same = c.requires.1 in
-    let read : c.checked.result ≡ bytes = c.checked.ensures ∙ e in
+    let read : c.checked_copy.result ≡ bytes = c.checked_copy.ensures ∙ e in
     c.new-own.ensures.1 ∙ (rw (same.0, same.1, same.2, read))
 
 pub put_table-requires : goal.put_table-requires
